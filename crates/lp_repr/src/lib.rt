@@ -3,6 +3,7 @@
 
 pub mod consts;
 pub mod escaped;
+mod joined;
 pub mod lr1;
 pub mod parse_tree;
 pub mod repr;
@@ -10,5 +11,5 @@ pub mod text;
 pub mod values;
 
 pub use escaped::Escaped;
-pub use lr1::{Item, Lr1State, StartStates, Token};
+pub use lr1::{Item, Lr1State, ShownItem, ShownToken, StartStates, Token};
 pub use text::{Items, Text};

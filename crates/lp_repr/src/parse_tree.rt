@@ -1,7 +1,9 @@
 //! What a grammar file says of names, bounds and visibilities.
 
+use crate::joined::write_joined;
 use crate::text::{Items, Text};
 use std::fmt;
+use std::fmt::Display;
 
 /// A path, as `a::b`; an absolute one begins with `::`.
 #[derive(Clone, Debug, PartialEq, Eq, PartialOrd, Ord, Drop)]
@@ -61,4 +63,144 @@ pub enum WhereClause<T> {
         ty: T,
         bounds: Items<TypeBound<T>>,
     },
+}
+
+impl fmt::Display for Path {
+    /// `a::b` or `::a::b`.
+    fn fmt<W: fmt::Write>(&self, f: &mut fmt::Formatter<W>) -> fmt::Result {
+        if self.absolute {
+            f.write_str("::")?;
+        }
+        write_joined(f, self.ids.as_slice(), "::")
+    }
+}
+
+impl fmt::Display for TypeParameter {
+    fn fmt<W: fmt::Write>(&self, f: &mut fmt::Formatter<W>) -> fmt::Result {
+        match self {
+            TypeParameter::Lifetime(name) => name.fmt(f),
+            TypeParameter::Id(name) => name.fmt(f),
+        }
+    }
+}
+
+impl fmt::Display for Visibility {
+    /// `pub `, `pub(path) ` or nothing.
+    fn fmt<W: fmt::Write>(&self, f: &mut fmt::Formatter<W>) -> fmt::Result {
+        match self {
+            Visibility::Pub(None) => f.write_str("pub "),
+            Visibility::Pub(Some(path)) => {
+                f.write_str("pub(")?;
+                path.fmt(f)?;
+                f.write_str(") ")
+            }
+            Visibility::Priv => Ok(()),
+        }
+    }
+}
+
+/// `for<'a, T> `, or nothing where the binder names none.
+pub(crate) fn write_binder<W: fmt::Write>(
+    f: &mut fmt::Formatter<W>,
+    binder: &[TypeParameter],
+) -> fmt::Result {
+    if binder.is_empty() {
+        return Ok(());
+    }
+    f.write_str("for<")?;
+    write_joined(f, binder, ", ")?;
+    f.write_str("> ")
+}
+
+impl<T: fmt::Display> fmt::Display for TypeBound<T> {
+    /// `'a`, `for<'a> p(A) -> B` or `for<'a> p<A, I = B>`.
+    fn fmt<W: fmt::Write>(&self, f: &mut fmt::Formatter<W>) -> fmt::Result {
+        match self {
+            TypeBound::Lifetime(name) => name.fmt(f),
+            TypeBound::Fn {
+                binder,
+                path,
+                parameters,
+                ret,
+            } => {
+                write_binder(f, binder.as_slice())?;
+                path.fmt(f)?;
+                write_call(f, parameters.as_slice(), ret)
+            }
+            TypeBound::Trait {
+                binder,
+                path,
+                parameters,
+            } => {
+                write_binder(f, binder.as_slice())?;
+                path.fmt(f)?;
+                write_arguments(f, parameters.as_slice())
+            }
+        }
+    }
+}
+
+/// `(A, B) -> C`, or `(A, B)` without a result.
+fn write_call<W: fmt::Write, T: fmt::Display>(
+    f: &mut fmt::Formatter<W>,
+    parameters: &[T],
+    ret: &Option<T>,
+) -> fmt::Result {
+    f.write_str("(")?;
+    write_joined(f, parameters, ", ")?;
+    f.write_str(")")?;
+    match ret {
+        None => Ok(()),
+        Some(ret) => {
+            f.write_str(" -> ")?;
+            ret.fmt(f)
+        }
+    }
+}
+
+/// `<A, B>`, or nothing for no arguments.
+fn write_arguments<W: fmt::Write, T: fmt::Display>(
+    f: &mut fmt::Formatter<W>,
+    arguments: &[T],
+) -> fmt::Result {
+    if arguments.is_empty() {
+        return Ok(());
+    }
+    f.write_str("<")?;
+    write_joined(f, arguments, ", ")?;
+    f.write_str(">")
+}
+
+impl<T: fmt::Display> fmt::Display for TypeBoundParameter<T> {
+    /// `'a`, `A` or `I = B`.
+    fn fmt<W: fmt::Write>(&self, f: &mut fmt::Formatter<W>) -> fmt::Result {
+        match self {
+            TypeBoundParameter::Lifetime(name) => name.fmt(f),
+            TypeBoundParameter::TypeParameter(ty) => ty.fmt(f),
+            TypeBoundParameter::Associated(name, ty) => {
+                name.fmt(f)?;
+                f.write_str(" = ")?;
+                ty.fmt(f)
+            }
+        }
+    }
+}
+
+impl<T: fmt::Display> fmt::Display for WhereClause<T> {
+    /// `'a: 'b + 'c` or `for<'a> A: x + y`.
+    fn fmt<W: fmt::Write>(&self, f: &mut fmt::Formatter<W>) -> fmt::Result {
+        match self {
+            WhereClause::Lifetime { lifetime, bounds } => {
+                lifetime.fmt(f)?;
+                f.write_str(": ")?;
+                write_joined(f, bounds.as_slice(), " + ")
+            }
+            WhereClause::Bounded { binder, ty, bounds } => {
+                write_binder(f, binder.as_slice())?;
+                ty.fmt(f)?;
+                f.write_str(": ")?;
+                write_joined(f, bounds.as_slice(), " + ")
+            }
+        }
+    }
 }

@@ -1,8 +1,12 @@
 //! The lowered grammar.
 
-use crate::parse_tree::{Path, TypeBound, TypeParameter, Visibility};
+use crate::escaped::Escaped;
+use crate::joined::write_joined;
+use crate::parse_tree::{Path, TypeBound, TypeParameter, Visibility, write_binder};
 use crate::text::{Items, Text};
 use std::collections::BTreeMap;
+use std::fmt;
+use std::fmt::Display;
 
 /// A lowered grammar: productions over terminals and nonterminals, and the actions of their
 /// reductions.
@@ -204,4 +208,195 @@ pub enum WhereClause {
         subject: TypeRepr,
         bound: TypeBound<TypeRepr>,
     },
+}
+
+impl fmt::Display for NonterminalString {
+    fn fmt<W: fmt::Write>(&self, f: &mut fmt::Formatter<W>) -> fmt::Result {
+        self.0.fmt(f)
+    }
+}
+
+impl fmt::Display for TerminalString {
+    /// A quoted one as a literal, a bare one as it is, the error terminal as `error`.
+    fn fmt<W: fmt::Write>(&self, f: &mut fmt::Formatter<W>) -> fmt::Result {
+        match self {
+            TerminalString::Quoted(text) => Escaped(text.as_str()).fmt(f),
+            TerminalString::Bare(name) => name.fmt(f),
+            TerminalString::Error => f.write_str("error"),
+        }
+    }
+}
+
+impl fmt::Display for Symbol {
+    fn fmt<W: fmt::Write>(&self, f: &mut fmt::Formatter<W>) -> fmt::Result {
+        match self {
+            Symbol::Nonterminal(name) => name.fmt(f),
+            Symbol::Terminal(terminal) => terminal.fmt(f),
+        }
+    }
+}
+
+impl fmt::Display for Production {
+    /// `N = s, t => ActionFn(a);`
+    fn fmt<W: fmt::Write>(&self, f: &mut fmt::Formatter<W>) -> fmt::Result {
+        self.nonterminal.fmt(f)?;
+        f.write_str(" = ")?;
+        write_joined(f, self.symbols.as_slice(), ", ")?;
+        f.write_str(" => ActionFn(")?;
+        self.action.fmt(f)?;
+        f.write_str(");")
+    }
+}
+
+impl fmt::Display for TokenPattern {
+    /// The pieces, with `_` in the holes.
+    fn fmt<W: fmt::Write>(&self, f: &mut fmt::Formatter<W>) -> fmt::Result {
+        write_joined(f, self.pieces.as_slice(), "_")
+    }
+}
+
+impl fmt::Display for TypeRepr {
+    /// `(A, B)`, `(A,)`, `[A]`, `p::q<A, B>`, `T::I`, `dyn p<A>`, `'a`, `&'a mut A` or
+    /// `dyn for<'a> p(A) -> B`.
+    #[cycle(type_fmt)]
+    fn fmt<W: fmt::Write>(&self, f: &mut fmt::Formatter<W>) -> fmt::Result {
+        match self {
+            TypeRepr::Tuple(types) => write_tuple(f, types.as_slice()),
+            TypeRepr::Slice(element) => {
+                f.write_str("[")?;
+                (**element).fmt(f)?;
+                f.write_str("]")
+            }
+            TypeRepr::Nominal(nominal) => nominal.fmt(f),
+            TypeRepr::Associated { type_parameter, id } => {
+                f.write_str(type_parameter.as_str())?;
+                f.write_str("::")?;
+                f.write_str(id.as_str())
+            }
+            TypeRepr::TraitObject(nominal) => {
+                f.write_str("dyn ")?;
+                nominal.fmt(f)
+            }
+            TypeRepr::Lifetime(name) => f.write_str(name.as_str()),
+            TypeRepr::Ref {
+                lifetime,
+                mutable,
+                referent,
+            } => {
+                write_reference(f, lifetime, *mutable)?;
+                (**referent).fmt(f)
+            }
+            TypeRepr::Fn {
+                binder,
+                path,
+                parameters,
+                ret,
+            } => {
+                write_fn_head(f, binder, path)?;
+                write_parameters(f, parameters)?;
+                write_ret(f, ret)
+            }
+        }
+    }
+}
+
+/// `dyn for<'a> p`
+fn write_fn_head<W: fmt::Write>(
+    f: &mut fmt::Formatter<W>,
+    binder: &Vec<TypeParameter>,
+    path: &Path,
+) -> fmt::Result {
+    f.write_str("dyn ")?;
+    write_binder(f, binder.as_slice())?;
+    path.fmt(f)
+}
+
+/// `(A, B)`
+#[cycle(type_fmt)]
+fn write_parameters<W: fmt::Write>(
+    f: &mut fmt::Formatter<W>,
+    parameters: &Vec<TypeRepr>,
+) -> fmt::Result {
+    f.write_str("(")?;
+    write_types(f, parameters.as_slice())?;
+    f.write_str(")")
+}
+
+/// ` -> C`, or nothing.
+#[cycle(type_fmt)]
+fn write_ret<W: fmt::Write>(f: &mut fmt::Formatter<W>, ret: &Option<Box<TypeRepr>>) -> fmt::Result {
+    match ret {
+        None => Ok(()),
+        Some(ret) => {
+            f.write_str(" -> ")?;
+            (**ret).fmt(f)
+        }
+    }
+}
+
+/// `&`, `&'a `, `&mut ` or `&'a mut `.
+fn write_reference<W: fmt::Write>(
+    f: &mut fmt::Formatter<W>,
+    lifetime: &Option<String>,
+    mutable: bool,
+) -> fmt::Result {
+    f.write_str("&")?;
+    if let Some(name) = lifetime {
+        f.write_str(name.as_str())?;
+        f.write_str(" ")?;
+    }
+    if mutable { f.write_str("mut ") } else { Ok(()) }
+}
+
+/// `(A, B)`, or `(A,)` for one type.
+#[cycle(type_fmt)]
+fn write_tuple<W: fmt::Write>(f: &mut fmt::Formatter<W>, types: &[TypeRepr]) -> fmt::Result {
+    f.write_str("(")?;
+    write_types(f, types)?;
+    f.write_str(if types.len() == 1 { ",)" } else { ")" })
+}
+
+/// The types, joined by `, `.
+#[cycle(type_fmt)]
+fn write_types<W: fmt::Write>(f: &mut fmt::Formatter<W>, types: &[TypeRepr]) -> fmt::Result {
+    for (i, ty) in types.iter().enumerate() {
+        if i > 0 {
+            f.write_str(", ")?;
+        }
+        ty.fmt(f)?;
+    }
+    Ok(())
+}
+
+impl fmt::Display for NominalTypeRepr {
+    /// `p::q<A, B>`, or the path alone without arguments.
+    #[cycle(type_fmt)]
+    fn fmt<W: fmt::Write>(&self, f: &mut fmt::Formatter<W>) -> fmt::Result {
+        self.path.fmt(f)?;
+        if self.types.is_empty() {
+            return Ok(());
+        }
+        f.write_str("<")?;
+        write_types(f, self.types.as_slice())?;
+        f.write_str(">")
+    }
+}
+
+impl fmt::Display for WhereClause {
+    /// `for<'a> c` or `A: bound`.
+    fn fmt<W: fmt::Write>(&self, f: &mut fmt::Formatter<W>) -> fmt::Result {
+        match self {
+            WhereClause::Forall { binder, clause } => {
+                f.write_str("for<")?;
+                write_joined(f, binder.as_slice(), ", ")?;
+                f.write_str("> ")?;
+                (**clause).fmt(f)
+            }
+            WhereClause::Bound { subject, bound } => {
+                subject.fmt(f)?;
+                f.write_str(": ")?;
+                bound.fmt(f)
+            }
+        }
+    }
 }
