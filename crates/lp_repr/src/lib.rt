@@ -3,13 +3,22 @@
 
 pub mod consts;
 pub mod escaped;
+mod free_variables;
 mod joined;
 pub mod lr1;
+mod matching;
+mod normal;
+pub mod numbering;
 pub mod parse_tree;
 pub mod repr;
+mod state_parts;
 pub mod text;
 pub mod values;
 
 pub use escaped::Escaped;
+pub use free_variables::FreeVariables;
 pub use lr1::{Item, Lr1State, ShownItem, ShownToken, StartStates, Token};
+pub use matching::{matched_terminal, matches};
+pub use normal::norm;
+pub use state_parts::{max_prefix, successors, will_pop, will_produce, will_push};
 pub use text::{Items, Text};
