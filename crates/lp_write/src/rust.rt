@@ -1,0 +1,233 @@
+//! The writer of indented lines.
+
+ghost use Rattle.std.specs.Prelude.{◌≡◌, ℕ, ◌+◌, ◌-◌, ◌<◌, ◌≤◌, length};
+
+use crate::headers::FnHeader;
+use crate::sinks::{Failed, Sink, write_all, write_blanks};
+use lp_repr::parse_tree::Visibility;
+use lp_repr::repr::Grammar;
+use std::alloc::{AllocError, Global};
+use std::fmt::Display;
+use thiserror::Error;
+
+/// Why a call that takes memory wrote less than it was to write.
+#[derive(Clone, Copy, Debug, PartialEq, Eq, Error)]
+pub enum WriteError {
+    /// A write failed; the sink's count of faults rose in this call.
+    #[error("write fault")]
+    Fault,
+    #[error("memory")]
+    Memory,
+}
+
+impl From<Failed> for WriteError {
+    fn from(_failed: Failed) -> WriteError {
+        WriteError::Fault
+    }
+}
+
+impl From<AllocError> for WriteError {
+    fn from(_error: AllocError) -> WriteError {
+        WriteError::Memory
+    }
+}
+
+/// How emitted text looks.
+#[derive(Clone, Copy, Debug, PartialEq, Eq)]
+pub struct Options {
+    /// Comment lines are printed.
+    pub comments: bool,
+    /// Indents are printed.
+    pub whitespace: bool,
+}
+
+impl Default for Options {
+    /// No comments, and whitespace on.
+    fn default() -> Options {
+        Options {
+            comments: false,
+            whitespace: true,
+        }
+    }
+}
+
+/// By how much an opening bracket at a line's end raises the indent.
+const TAB: usize = 4;
+
+/// A writer of lines of Rust. It keeps an indent, which goes by the brackets that begin and end the
+/// lines.
+#[derive(Drop)]
+pub struct RustWrite<W> {
+    write: W,
+    indent: usize,
+    options: Options,
+}
+
+fn closes(byte: u8) -> bool {
+    byte == b'}' || byte == b']' || byte == b')'
+}
+
+fn opens(byte: u8) -> bool {
+    byte == b'{' || byte == b'[' || byte == b'('
+}
+
+/// The indent at which a line stands that isn't empty.
+fn indent_at(indent: usize, text: &[u8]) -> usize {
+    match text.first() {
+        Some(first) if closes(*first) => indent.saturating_sub(TAB),
+        _ => indent,
+    }
+}
+
+/// The indent after a line that stood at an indent.
+fn indent_after(indent: usize, text: &[u8]) -> usize {
+    match text.last() {
+        Some(last) if opens(*last) && indent <= usize::MAX - TAB => indent + TAB,
+        _ => indent,
+    }
+}
+
+impl<W: Sink> RustWrite<W> {
+    /// A writer at indent 0.
+    pub fn new(w: W, options: Options) -> RustWrite<W> {
+        RustWrite {
+            write: w,
+            indent: 0,
+            options,
+        }
+    }
+
+    /// The sink.
+    pub fn into_inner(self) -> W {
+        self.write
+    }
+
+    /// The options that it was made with.
+    pub fn options(&self) -> Options {
+        self.options
+    }
+
+    /// Appends a line; the text counts as one line. An empty text is a line end alone. A text that
+    /// begins with a closing bracket first lowers the indent by 4, down to 0; one that ends with an
+    /// opening bracket raises it by 4 for the lines after it.
+    pub fn line(&mut self, text: &str) -> Result<(), Failed> {
+        let bytes = text.as_bytes();
+        if bytes.is_empty() {
+            return write_all(&mut self.write, b"\n");
+        }
+        let indent = indent_at(self.indent, bytes);
+        self.write_at(indent, bytes)?;
+        self.indent = indent_after(indent, bytes);
+        Ok(())
+    }
+
+    /// Appends user code: the indent, the code with its own line ends, a line end. The indent stays
+    /// as it was.
+    pub fn code(&mut self, text: &str) -> Result<(), Failed> {
+        let indent = self.indent;
+        self.write_at(indent, text.as_bytes())
+    }
+
+    fn write_at(&mut self, indent: usize, bytes: &[u8]) -> Result<(), Failed> {
+        if self.options.whitespace {
+            write_blanks(&mut self.write, indent)?;
+        }
+        write_all(&mut self.write, bytes)?;
+        write_all(&mut self.write, b"\n")
+    }
+
+    /// Appends a row of a table: its numbers on one line, or, with comments on, one line with the
+    /// comment per number and an empty line. The indent stays as it was.
+    pub fn write_table_row<C: Display>(
+        &mut self,
+        alloc: Global,
+        row: &[(i32, C)],
+    ) -> Result<(), WriteError> {
+        if self.options.comments {
+            self.write_commented_row(alloc, row)
+        } else {
+            let text = row_text(alloc, self.options.whitespace, row)?;
+            self.code(text.as_str())?;
+            Ok(())
+        }
+    }
+
+    fn write_commented_row<C: Display>(
+        &mut self,
+        alloc: Global,
+        row: &[(i32, C)],
+    ) -> Result<(), WriteError> {
+        for (entry, comment) in row {
+            let text = format!(in alloc; "{entry}, {comment}")?;
+            self.code(text.as_str())?;
+        }
+        self.line("")?;
+        Ok(())
+    }
+
+    /// Appends the attributes of the grammar's module, one per line.
+    pub fn write_module_attributes(&mut self, grammar: &Grammar) -> Result<(), Failed> {
+        for attribute in grammar.module_attributes.as_slice() {
+            self.line(attribute.as_str())?;
+        }
+        Ok(())
+    }
+
+    /// Appends a `use` line per use of the grammar, one that begins with `super::` after the
+    /// prefix, and then the uses of every module.
+    pub fn write_uses(
+        &mut self,
+        alloc: Global,
+        super_prefix: &str,
+        grammar: &Grammar,
+    ) -> Result<(), WriteError> {
+        for path in grammar.uses.as_slice() {
+            let path = path.as_str();
+            let text = if path.starts_with("super::") {
+                format!(in alloc; "use {super_prefix}{path};")?
+            } else {
+                format!(in alloc; "use {path};")?
+            };
+            self.line(text.as_str())?;
+        }
+        self.write_standard_uses(alloc, grammar.prefix.as_str())
+    }
+
+    /// Appends the uses of every module, under the prefix.
+    pub fn write_standard_uses(&mut self, alloc: Global, prefix: &str) -> Result<(), WriteError> {
+        let util = format!(in alloc; "extern crate lalrpop_util as {prefix}lalrpop_util;")?;
+        let machine = format!(in alloc;
+            "use self::{prefix}lalrpop_util::state_machine as {prefix}state_machine;"
+        )?;
+        self.line("#[allow(unused_extern_crates)]")?;
+        self.line(util.as_str())?;
+        self.line("#[allow(unused_imports)]")?;
+        self.line(machine.as_str())?;
+        self.line("#[allow(unused_extern_crates)]")?;
+        self.line("extern crate alloc;")?;
+        Ok(())
+    }
+
+    /// A header of a function of this name, to which lists are added and which then is emitted.
+    pub fn fn_header<'me>(
+        &'me mut self,
+        alloc: Global,
+        visibility: &'me Visibility,
+        name: String,
+    ) -> FnHeader<'me, W> {
+        FnHeader::new(alloc, self, visibility, name)
+    }
+}
+
+/// The numbers of a row, a `,` behind each.
+fn row_text<C>(alloc: Global, whitespace: bool, row: &[(i32, C)]) -> Result<String, AllocError> {
+    let mut text = String::new(alloc);
+    for (entry, _comment) in row {
+        if whitespace && text.len() > 0 {
+            text.push_str(" ")?;
+        }
+        let piece = format!(in alloc; "{entry},")?;
+        text.push_str(piece.as_str())?;
+    }
+    Ok(text)
+}
