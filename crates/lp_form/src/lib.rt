@@ -1,0 +1,14 @@
+//! The printed forms as data: each part of a program is a constant, its lines with their holes and
+//! what stands between them.
+#![tactic(auto)]
+
+pub mod class;
+pub mod forms;
+pub mod kind;
+pub mod part;
+pub mod template;
+
+pub use class::Class;
+pub use kind::FormKind;
+pub use part::{Part, form, holes, members, steps};
+pub use template::{Kind, Line, Slot, Step};
