@@ -1,2 +1,4 @@
 pub mod Counting
+pub mod Lines
 pub mod Sinks
+pub mod Writes

@@ -5,6 +5,7 @@ ghost use Rattle.std.specs.Prelude.{◌≡◌, ℕ, ◌+◌, ◌-◌, ◌<◌, �
 use crate::rust::{RustWrite, WriteError};
 use crate::sinks::Sink;
 use lp_repr::parse_tree::Visibility;
+use lp_repr::repr::{Grammar, Parameter};
 use std::alloc::{AllocError, Global};
 use std::fmt::Display;
 
@@ -50,6 +51,13 @@ impl<'me, W: Sink> FnHeader<'me, W> {
         }
     }
 
+    /// Adds the type parameters, the where clauses and the parameters of the grammar.
+    pub fn with_grammar(self, grammar: &Grammar) -> Result<Self, AllocError> {
+        self.with_type_parameters(grammar.type_parameters.as_slice())?
+            .with_where_clauses(grammar.where_clauses.as_slice())?
+            .with_parameters(grammar.parameters.as_slice())
+    }
+
     /// Adds type parameters; lifetimes have to come first.
     pub fn with_type_parameters<T: Display>(mut self, tps: &[T]) -> Result<Self, AllocError> {
         add_shown(self.texts.alloc, &mut self.texts.type_parameters, tps)?;
@@ -84,9 +92,7 @@ impl<'me, W: Sink> FnHeader<'me, W> {
     /// Appends the header.
     pub fn emit(self) -> Result<(), WriteError> {
         let lines = header_lines(self.visibility, &self.texts)?;
-        for line in lines.iter() {
-            self.write.line(line.as_str())?;
-        }
+        self.write.lines(lines.as_slice())?;
         Ok(())
     }
 }
@@ -107,8 +113,7 @@ fn header_lines(visibility: &Visibility, texts: &HeaderTexts) -> Result<Vec<Stri
     let alloc = texts.alloc;
     let mut lines = Vec::new(alloc);
     let name = &texts.name;
-    let visible = visibility_text(alloc, visibility)?;
-    lines.push(format!(in alloc; "{visible}fn {name}<")?)?;
+    lines.push(format!(in alloc; "{visibility}fn {name}<")?)?;
     for text in &texts.type_parameters {
         lines.push(format!(in alloc; "    {text},")?)?;
     }
@@ -146,21 +151,10 @@ impl ParameterDisplay for String {
     }
 }
 
-/// What stands before `fn`.
-fn visibility_text(alloc: Global, visibility: &Visibility) -> Result<String, AllocError> {
-    match visibility {
-        Visibility::Priv => Ok(String::new(alloc)),
-        Visibility::Pub(None) => String::from_str(alloc, "pub "),
-        Visibility::Pub(Some(path)) => {
-            let mut text = String::from_str(alloc, "pub(")?;
-            for (i, id) in path.ids.as_slice().iter().enumerate() {
-                if path.absolute || i > 0 {
-                    text.push_str("::")?;
-                }
-                text.push_str(id.as_str())?;
-            }
-            text.push_str(") ")?;
-            Ok(text)
-        }
+impl ParameterDisplay for Parameter {
+    fn to_parameter_string(&self, alloc: Global) -> Result<String, AllocError> {
+        let name = &self.name;
+        let ty = &self.ty;
+        format!(in alloc; "{name}: {ty}")
     }
 }

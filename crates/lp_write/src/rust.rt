@@ -1,9 +1,14 @@
 //! The writer of indented lines.
 
-ghost use Rattle.std.specs.Prelude.{◌≡◌, ℕ, ◌+◌, ◌-◌, ◌<◌, ◌≤◌, length};
+ghost use Rattle.std.specs.Prelude.{◌≡◌, ℕ, ◌+◌, ◌-◌, ◌<◌, ◌≤◌, List, [], ◌∷◌, ◌++◌, length, map, slice_index, OnOk, OnErr};
+ghost use Rattle.lp_write.specs.Sinks.{Took, Broke};
+ghost use Rattle.lp_write.specs.Lines.{closes, opens, lowered, raised, blanks, indented};
+ghost use Rattle.lp_write.specs.Lines.Line.{line, verbatim};
+ghost use Rattle.lp_write.specs.Writes.{sink_of, indent_of, options_of, writing, Writes, ending, write_ending};
 
 use crate::headers::FnHeader;
 use crate::sinks::{Failed, Sink, write_all, write_blanks};
+use crate::util::AsStr;
 use lp_repr::parse_tree::Visibility;
 use lp_repr::repr::Grammar;
 use std::alloc::{AllocError, Global};
@@ -21,12 +26,22 @@ pub enum WriteError {
 }
 
 impl From<Failed> for WriteError {
+    ghost use Rattle.std.specs.Prelude.{◌≡◌};
+    ghost use Rattle.lp_write.specs.declared.rust.WriteError.TheVariants.{Fault};
+
+    ghost from_gives = { λ _ e. e ≡ Fault };
+
     fn from(_failed: Failed) -> WriteError {
         WriteError::Fault
     }
 }
 
 impl From<AllocError> for WriteError {
+    ghost use Rattle.std.specs.Prelude.{◌≡◌};
+    ghost use Rattle.lp_write.specs.declared.rust.WriteError.TheVariants.{Memory};
+
+    ghost from_gives = { λ _ e. e ≡ Memory };
+
     fn from(_error: AllocError) -> WriteError {
         WriteError::Memory
     }
@@ -63,33 +78,60 @@ pub struct RustWrite<W> {
     options: Options,
 }
 
-fn closes(byte: u8) -> bool {
+fn closes(byte: u8) -> bool
+    ensures { result ≡ closes byte }
+{
     byte == b'}' || byte == b']' || byte == b')'
 }
 
-fn opens(byte: u8) -> bool {
+fn opens(byte: u8) -> bool
+    ensures { result ≡ opens byte }
+{
     byte == b'{' || byte == b'[' || byte == b'('
 }
 
-/// The indent at which a line stands that isn't empty.
-fn indent_at(indent: usize, text: &[u8]) -> usize {
-    match text.first() {
-        Some(first) if closes(*first) => indent.saturating_sub(TAB),
-        _ => indent,
+/// The indent of a text that isn't empty.
+fn lowered(indent: usize, text: &[u8]) -> usize
+    requires { 0 < length text.now }
+    ensures { result ≡ lowered indent text.now }
+{
+    if closes(text[0]) {
+        indent.saturating_sub(TAB)
+    } else {
+        indent
     }
 }
 
-/// The indent after a line that stood at an indent.
-fn indent_after(indent: usize, text: &[u8]) -> usize {
-    match text.last() {
-        Some(last) if opens(*last) && indent <= usize::MAX - TAB => indent + TAB,
-        _ => indent,
+/// The indent after a text that isn't empty.
+fn raised(indent: usize, text: &[u8]) -> usize
+    requires { 0 < length text.now }
+    ensures { result ≡ raised indent text.now }
+{
+    if opens(text[text.len() - 1]) && indent <= usize::MAX - TAB {
+        indent + TAB
+    } else {
+        indent
     }
+}
+
+/// Writes the blanks of an indent, if blanks are printed.
+fn write_indent<W: Sink>(sink: &mut W, whitespace: bool, indent: usize) -> Result<(), Failed>
+    ensures whole { OnOk result (Took (W.told sink.old) (W.told sink.new) (blanks whitespace indent)) }
+    ensures broke { OnErr result (Broke (W.told sink.old) (W.told sink.new) (blanks whitespace indent)) }
+{
+    if whitespace {
+        return write_blanks(sink, indent);
+    }
+    Ok(())
 }
 
 impl<W: Sink> RustWrite<W> {
     /// A writer at indent 0.
-    pub fn new(w: W, options: Options) -> RustWrite<W> {
+    pub fn new(w: W, options: Options) -> RustWrite<W>
+        ensures sink { sink_of result ≡ w }
+        ensures indent { indent_of result ≡ 0 }
+        ensures options { options_of result ≡ options }
+    {
         RustWrite {
             write: w,
             indent: 0,
@@ -98,42 +140,64 @@ impl<W: Sink> RustWrite<W> {
     }
 
     /// The sink.
-    pub fn into_inner(self) -> W {
+    pub fn into_inner(self) -> W
+        ensures { result ≡ sink_of self }
+    {
         self.write
     }
 
     /// The options that it was made with.
-    pub fn options(&self) -> Options {
+    pub fn options(&self) -> Options
+        ensures { result ≡ options_of self.now }
+    {
         self.options
     }
 
     /// Appends a line; the text counts as one line. An empty text is a line end alone. A text that
     /// begins with a closing bracket first lowers the indent by 4, down to 0; one that ends with an
     /// opening bracket raises it by 4 for the lines after it.
-    pub fn line(&mut self, text: &str) -> Result<(), Failed> {
+    pub fn line(&mut self, text: &str) -> Result<(), Failed>
+        ensures { Writes (ending result) (writing W.told self.old) (writing W.told self.new) (line text.now ∷ []) }
+    {
         let bytes = text.as_bytes();
         if bytes.is_empty() {
             return write_all(&mut self.write, b"\n");
         }
-        let indent = indent_at(self.indent, bytes);
+        let indent = lowered(self.indent, bytes);
         self.write_at(indent, bytes)?;
-        self.indent = indent_after(indent, bytes);
+        self.indent = raised(indent, bytes);
         Ok(())
     }
 
     /// Appends user code: the indent, the code with its own line ends, a line end. The indent stays
     /// as it was.
-    pub fn code(&mut self, text: &str) -> Result<(), Failed> {
+    pub fn code(&mut self, text: &str) -> Result<(), Failed>
+        ensures { Writes (ending result) (writing W.told self.old) (writing W.told self.new) (verbatim text.now ∷ []) }
+    {
         let indent = self.indent;
         self.write_at(indent, text.as_bytes())
     }
 
-    fn write_at(&mut self, indent: usize, bytes: &[u8]) -> Result<(), Failed> {
-        if self.options.whitespace {
-            write_blanks(&mut self.write, indent)?;
-        }
-        write_all(&mut self.write, bytes)?;
+    /// Appends the text at an indent, and a line end.
+    fn write_at(&mut self, indent: usize, text: &[u8]) -> Result<(), Failed>
+        ensures whole { OnOk result (Took (W.told self.old.write) (W.told self.new.write) (indented self.old.options.whitespace indent text.now)) }
+        ensures broke { OnErr result (Broke (W.told self.old.write) (W.told self.new.write) (indented self.old.options.whitespace indent text.now)) }
+        ensures indent { self.new.indent ≡ self.old.indent }
+        ensures options { self.new.options ≡ self.old.options }
+    {
+        write_indent(&mut self.write, self.options.whitespace, indent)?;
+        write_all(&mut self.write, text)?;
         write_all(&mut self.write, b"\n")
+    }
+
+    /// Appends a line per text, in order.
+    pub(crate) fn lines<S: AsStr>(&mut self, texts: &[S]) -> Result<(), Failed>
+        ensures { Writes (ending result) (writing W.told self.old) (writing W.told self.new) (map (λ s. line (S.text s)) texts.now) }
+    {
+        for text in texts {
+            self.line(text.as_str())?;
+        }
+        Ok(())
     }
 
     /// Appends a row of a table: its numbers on one line, or, with comments on, one line with the
