@@ -1,0 +1,7 @@
+pub mod Values
+pub mod Questions
+pub mod DriverState
+pub mod ParsingTurns
+pub mod RecoveryTurns
+pub mod Turns
+pub mod DriverView
