@@ -1,0 +1,130 @@
+//! Program trees as flat lists: each part before those below it, with their number.
+
+use crate::piece::Piece;
+use lp_form::Part;
+use std::alloc::{AllocError, Global};
+
+/// The comments of a table row or of one line. They count for nothing but printing.
+#[derive(Drop)]
+pub struct RowNote<'t> {
+    /// How many entries of the table stand in this row and those before it.
+    pub end: usize,
+    /// Comment lines before the row, printed with comments on.
+    pub lines: Vec<Piece<'t>>,
+    /// What stands after each entry of the row with comments on.
+    pub comments: Vec<Piece<'t>>,
+}
+
+/// A part with what it holds, and how many of the parts after it are below it.
+#[derive(Drop)]
+pub struct Entry<'t> {
+    pub(crate) part: Part,
+    /// What its holes hold.
+    pub(crate) holes: Vec<Piece<'t>>,
+    /// The entries of a table.
+    pub(crate) numbers: Vec<i32>,
+    pub(crate) notes: Vec<RowNote<'t>>,
+    pub(crate) below: usize,
+}
+
+/// One form, or a row of one, with all that is below it.
+#[derive(Drop)]
+pub struct Node<'t> {
+    pub(crate) entries: Vec<Entry<'t>>,
+}
+
+/// A whole program: its prefix, and its parts in the order of the text.
+#[derive(Drop)]
+pub struct Program<'t> {
+    pub(crate) prefix: Piece<'t>,
+    pub(crate) entries: Vec<Entry<'t>>,
+}
+
+impl<'t> Node<'t> {
+    /// A part with nothing below it.
+    pub(crate) fn leaf(
+        alloc: Global,
+        part: Part,
+        holes: Vec<Piece<'t>>,
+    ) -> Result<Node<'t>, AllocError> {
+        let mut entries = Vec::new(alloc);
+        entries.push(Entry {
+            part,
+            holes,
+            numbers: Vec::new(alloc),
+            notes: Vec::new(alloc),
+            below: 0,
+        })?;
+        Ok(Node { entries })
+    }
+
+    /// Puts a node below this one, after those that are there.
+    pub(crate) fn add(&mut self, child: Node<'t>) -> Result<(), AllocError> {
+        let Node { entries } = child;
+        for entry in entries {
+            self.entries.push(entry)?;
+        }
+        self.close();
+        Ok(())
+    }
+
+    /// Puts the nodes below this one, in their order.
+    pub(crate) fn add_all(&mut self, children: Vec<Node<'t>>) -> Result<(), AllocError> {
+        for child in children {
+            self.add(child)?;
+        }
+        Ok(())
+    }
+
+    /// Puts what is below another node below this one.
+    pub(crate) fn add_below(&mut self, other: Node<'t>) -> Result<(), AllocError> {
+        let Node { entries } = other;
+        let mut first = true;
+        for entry in entries {
+            if !first {
+                self.entries.push(entry)?;
+            }
+            first = false;
+        }
+        self.close();
+        Ok(())
+    }
+
+    /// All that follows the first part is below it.
+    fn close(&mut self) {
+        let below = self.entries.len().saturating_sub(1);
+        if let Some(first) = self.entries.first_mut() {
+            first.below = below;
+        }
+    }
+
+    /// Gives the first part the comment lines of a note.
+    pub(crate) fn note(&mut self, alloc: Global, lines: Vec<Piece<'t>>) -> Result<(), AllocError> {
+        let mut notes = Vec::new(alloc);
+        notes.push(RowNote {
+            end: 0,
+            lines,
+            comments: Vec::new(alloc),
+        })?;
+        if let Some(first) = self.entries.first_mut() {
+            first.notes = notes;
+        }
+        Ok(())
+    }
+
+    /// Gives the first part the entries of a table.
+    pub(crate) fn fill(&mut self, numbers: Vec<i32>, notes: Vec<RowNote<'t>>) {
+        if let Some(first) = self.entries.first_mut() {
+            first.numbers = numbers;
+            first.notes = notes;
+        }
+    }
+
+    /// Whether the node is that part.
+    pub(crate) fn is(&self, part: Part) -> bool {
+        match self.entries.first() {
+            Some(first) => first.part == part,
+            None => false,
+        }
+    }
+}

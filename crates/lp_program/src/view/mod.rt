@@ -1,0 +1,14 @@
+//! Reading the forms of a program, without memory.
+
+mod form_view;
+mod joined;
+mod made;
+mod row;
+mod walk;
+
+pub use form_view::{
+    ActionView, FormView, LocationView, NameView, ReductionView, SpanView, TriplesView,
+};
+pub use joined::{Joined, parts_of};
+pub use row::{RowView, Rows};
+pub use walk::{Below, FormRef};
