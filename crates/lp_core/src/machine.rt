@@ -1,0 +1,324 @@
+//! The evaluator, whose frames stand in a `Vec`: it goes on until a step is to be made.
+
+ghost use Rattle.std.specs.Prelude.{◌≡◌, ◌+◌, ◌<◌, ◌∷◌, [], IfOk, MatchOption, List, slice_get};
+ghost use Rattle.std.specs.Option.{option_copied};
+ghost use Rattle.lp_core.specs.Tree.{trees_of};
+ghost use Rattle.lp_core.specs.Weight.{weight, weight_all, weight_frame, weights, weight_now};
+
+use crate::act::{do_leaf, do_op, write};
+use crate::expr::{Case, Expr, Node, Op, Place, Target, Test};
+use crate::join::do_join;
+use crate::value::{Atom, Value};
+use crate::world::{Done, Setting, World};
+use lp_repr::values::Term;
+use std::alloc::{AllocError, Global};
+use std::mem;
+
+/// What is to be done with a value, once there is one.
+#[derive(Drop)]
+pub enum Frame<'a> {
+    Apply(&'a Op),
+    Sequence(&'a [Expr]),
+    Choose(&'a Expr, &'a Expr),
+    Select(usize, &'a [Case], &'a [Expr]),
+    Argument(&'a Target, Vec<Value>, &'a [Expr]),
+    Turn(&'a Expr),
+    /// Back in the caller: its slots, and how many cells there were.
+    Leave(Vec<Value>, usize),
+}
+
+/// What makes a step.
+#[derive(Drop)]
+pub enum Step<'a> {
+    Enter(usize, Vec<Value>),
+    Again(&'a Expr),
+}
+
+/// Where the run is.
+#[derive(Drop)]
+pub enum Now<'a> {
+    Eval(&'a Expr),
+    Arguments(&'a Target, Vec<Value>, &'a [Expr]),
+    Sequence(&'a [Expr], Value),
+    Ended(Done),
+    Make(Step<'a>),
+}
+
+/// Where the run is when a step is to be made, or it is over.
+#[derive(Drop)]
+pub enum Pause<'a> {
+    Over(Done),
+    Wants(Step<'a>),
+}
+
+// Begins an expression.
+fn start<'a>(
+    alloc: Global,
+    setting: &Setting<'_>,
+    world: &mut World,
+    frames: &mut Vec<Frame<'a>>,
+    e: &'a Expr,
+) -> Result<Now<'a>, AllocError>
+    ensures { IfOk result (λ now. weights frames.new.items + weight_now now < weights frames.old.items + weight e.now) }
+{
+    match &e.node {
+        Node::Plain(l) => Ok(Now::Ended(do_leaf(alloc, setting, world, l)?)),
+        Node::Apply(op, a) => {
+            frames.push(Frame::Apply(op))?;
+            Ok(Now::Eval(a))
+        }
+        Node::If(t, a, b) => {
+            frames.push(Frame::Choose(a, b))?;
+            Ok(Now::Eval(t))
+        }
+        Node::Match(t, x, cases, bodies) => {
+            frames.push(Frame::Select(*x, cases, bodies))?;
+            Ok(Now::Eval(t))
+        }
+        Node::Loop(a) => Ok(Now::Make(Step::Again(a))),
+        Node::Call(target, args) => Ok(Now::Arguments(target, Vec::new(alloc), args)),
+        Node::Block(es) => Ok(Now::Sequence(es, Value::unset())),
+    }
+}
+
+// Goes on with the arguments of a call.
+fn next_argument<'a>(
+    alloc: Global,
+    setting: &Setting<'_>,
+    world: &mut World,
+    frames: &mut Vec<Frame<'a>>,
+    target: &'a Target,
+    values: Vec<Value>,
+    args: &'a [Expr],
+) -> Result<Now<'a>, AllocError>
+    ensures { IfOk result (λ now. weights frames.new.items + weight_now now < weights frames.old.items + weight_all (trees_of args.now)) }
+{
+    match split(args) {
+        None => match target {
+            Target::Function(f) => Ok(Now::Make(Step::Enter(*f, values))),
+            Target::Join(join) => { Ok(Now::Ended(do_join(alloc, setting, world, join, values)?)) }
+        },
+        Some((e, others)) => {
+            frames.push(Frame::Argument(target, values, others))?;
+            Ok(Now::Eval(e))
+        }
+    }
+}
+
+// Goes on with a block.
+fn next_of_block<'a>(
+    frames: &mut Vec<Frame<'a>>,
+    es: &'a [Expr],
+    value: Value,
+) -> Result<Now<'a>, AllocError>
+    ensures { IfOk result (λ now. weights frames.new.items + weight_now now < weights frames.old.items + weight_all (trees_of es.now)) }
+{
+    match split(es) {
+        None => Ok(Now::Ended(Done::Valued(value))),
+        Some((e, others)) => {
+            frames.push(Frame::Sequence(others))?;
+            Ok(Now::Eval(e))
+        }
+    }
+}
+
+// Goes on where a part gave a value.
+fn resume_with<'a>(
+    alloc: Global,
+    setting: &Setting<'_>,
+    world: &mut World,
+    frame: Frame<'a>,
+    v: Value,
+) -> Result<Now<'a>, AllocError>
+    ensures { IfOk result (λ now. weight_now now < weight_frame frame.entry) }
+{
+    match frame {
+        Frame::Apply(op) => Ok(Now::Ended(do_op(alloc, setting, world, op, v)?)),
+        Frame::Sequence(es) => Ok(Now::Sequence(es, v)),
+        Frame::Choose(a, b) => Ok(match v.as_bool() {
+            None => Now::Ended(Done::Stuck),
+            Some(true) => Now::Eval(a),
+            Some(false) => Now::Eval(b),
+        }),
+        Frame::Select(x, cases, bodies) => Ok(select(setting, world, x, cases, bodies, v)),
+        Frame::Argument(target, mut values, args) => {
+            values.push(v)?;
+            Ok(Now::Arguments(target, values, args))
+        }
+        Frame::Turn(e) => Ok(Now::Make(Step::Again(e))),
+        Frame::Leave(env, cells) => {
+            leave(world, env, cells);
+            Ok(Now::Ended(Done::Valued(v)))
+        }
+    }
+}
+
+// Goes on with the body of the first case that fits a value.
+fn select<'a>(
+    setting: &Setting<'_>,
+    world: &mut World,
+    x: usize,
+    cases: &'a [Case],
+    bodies: &'a [Expr],
+    v: Value,
+) -> Now<'a>
+    ensures { weight_now result < weight_all (trees_of bodies.now) + 1 }
+{
+    match chosen(setting, cases, bodies.len(), &v) {
+        None => Now::Ended(Done::Stuck),
+        Some(body) => match nth(bodies, body) {
+            None => Now::Ended(Done::Stuck),
+            Some(e) => {
+                if write(world, x, v) {
+                    Now::Eval(e)
+                } else {
+                    Now::Ended(Done::Stuck)
+                }
+            }
+        },
+    }
+}
+
+fn nth(bodies: &[Expr], body: usize) -> Option<&Expr>
+    ensures { option_copied result ≡ slice_get bodies.now body }
+{
+    bodies.get(body)
+}
+
+// The number of the body of the first case that fits, else of the last of so many bodies.
+fn chosen(setting: &Setting<'_>, cases: &[Case], bodies: usize, v: &Value) -> Option<usize> {
+    for case in cases {
+        if fits(setting, case, v)? {
+            return Some(case.body);
+        }
+    }
+    bodies.checked_sub(1)
+}
+
+// Whether a case fits a value; none where the value is of another kind.
+fn fits(setting: &Setting<'_>, case: &Case, v: &Value) -> Option<bool> {
+    match case.place {
+        Place::Here => passes(setting, case.test, v),
+        Place::Inside => match v.part(0) {
+            None => Some(false),
+            Some(part) => passes(setting, case.test, part),
+        },
+        Place::TokenInside => match v.part(0) {
+            None => Some(false),
+            Some(triple) => passes(setting, case.test, triple.part(1)?),
+        },
+    }
+}
+
+fn passes(setting: &Setting<'_>, test: Test, v: &Value) -> Option<bool> {
+    match test {
+        Test::Between(low, high) => {
+            let n = crate::act::number(v)?;
+            Some(low <= n && n <= high)
+        }
+        Test::Is(tag) => Some(v.tag()? == tag),
+        Test::Form(text) => match v.as_atom()? {
+            Atom::Term(Term::Token(token)) => {
+                let form = setting.code.texts.get(text)?;
+                Some(form.as_str() == token.form.as_str())
+            }
+            _ => None,
+        },
+    }
+}
+
+// Back in the caller.
+fn leave(world: &mut World, env: Vec<Value>, cells: usize) {
+    world.env = env;
+    world.cells.truncate(cells);
+}
+
+// Goes on in one frame.
+fn resume<'a>(
+    alloc: Global,
+    setting: &Setting<'_>,
+    world: &mut World,
+    frame: Frame<'a>,
+    done: Done,
+) -> Result<Now<'a>, AllocError>
+    ensures { IfOk result (λ now. weight_now now < weight_frame frame.entry) }
+{
+    match done {
+        Done::Valued(v) => resume_with(alloc, setting, world, frame, v),
+        Done::Returned(v) => Ok(Now::Ended(match frame {
+            Frame::Leave(env, cells) => {
+                leave(world, env, cells);
+                Done::Valued(v)
+            }
+            _ => Done::Returned(v),
+        })),
+        Done::Stuck => Ok(Now::Ended(Done::Stuck)),
+    }
+}
+
+/// Goes on until a step is to be made, or the run is over.
+pub fn settle<'a>(
+    alloc: Global,
+    setting: &Setting<'_>,
+    world: &mut World,
+    frames: &mut Vec<Frame<'a>>,
+    first: Now<'a>,
+) -> Result<Pause<'a>, AllocError> {
+    let mut now = first;
+    'settling: loop {
+        now = match now {
+            Now::Eval(e) => start(alloc, setting, world, frames, e)?,
+            Now::Arguments(target, values, args) => {
+                next_argument(alloc, setting, world, frames, target, values, args)?
+            }
+            Now::Sequence(es, value) => next_of_block(frames, es, value)?,
+            Now::Ended(done) => match frames.pop() {
+                Some(frame) => resume(alloc, setting, world, frame, done)?,
+                None => return Ok(Pause::Over(done)),
+            },
+            Now::Make(step) => return Ok(Pause::Wants(step)),
+        };
+    }
+}
+
+/// Makes a step: enters a function, or begins a turn of a loop.
+pub fn make_step<'a>(
+    setting: &Setting<'a>,
+    world: &mut World,
+    frames: &mut Vec<Frame<'a>>,
+    step: Step<'a>,
+) -> Result<Now<'a>, AllocError> {
+    match step {
+        Step::Again(e) => {
+            frames.push(Frame::Turn(e))?;
+            Ok(Now::Eval(e))
+        }
+        Step::Enter(f, values) => match setting.code.functions.get(f) {
+            None => Ok(Now::Ended(Done::Stuck)),
+            Some(function) => {
+                if function.params != values.len() {
+                    return Ok(Now::Ended(Done::Stuck));
+                }
+                let env = with_slots(values, function.slots)?;
+                let caller = mem::replace(&mut world.env, env);
+                frames.push(Frame::Leave(caller, world.cells.len()))?;
+                Ok(Now::Eval(&function.body))
+            }
+        },
+    }
+}
+
+// The slots of a new call.
+fn with_slots(mut values: Vec<Value>, slots: usize) -> Result<Vec<Value>, AllocError> {
+    for _i in 0..slots {
+        values.push(Value::unset())?;
+    }
+    Ok(values)
+}
+
+// The first expression, and the others.
+fn split(es: &[Expr]) -> Option<(&Expr, &[Expr])>
+    ensures { MatchOption result (es.now ≡ []) (λ r. es.now ≡ r.0.now ∷ r.1.now) }
+{
+    es.split_first()
+}
