@@ -12,4 +12,3 @@ pub use lp_form::FormKind;
 pub use piece::{Name, Piece};
 pub use tree::{Node, Program, RowNote};
 pub use view::{FormRef, FormView};
-

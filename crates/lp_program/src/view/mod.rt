@@ -3,6 +3,7 @@
 mod form_view;
 mod joined;
 mod made;
+mod part;
 mod row;
 mod walk;
 
@@ -10,5 +11,6 @@ pub use form_view::{
     ActionView, FormView, LocationView, NameView, ReductionView, SpanView, TriplesView,
 };
 pub use joined::{Joined, parts_of};
+pub use part::{PartRef, Parts};
 pub use row::{RowView, Rows};
 pub use walk::{Below, FormRef};
