@@ -1,0 +1,6 @@
+pub mod Lefts
+pub mod ScanSteps
+pub mod CutSteps
+pub mod Found
+pub mod Readings
+pub mod Unescaped

@@ -1,0 +1,13 @@
+use Rattle.std.proofs.Common.{◌++◌, sym, ap, subst, ◌∙◌, take, drop, take-append-drop}
+use Rattle.std.specs.Str.{chars}
+use Rattle.std.proofs.lemmas.Str.{IsUtf8-take}
+use Rattle.lp_tok.specs.Pieces.{text_between}
+use Rattle.lp_tok.proofs.Lefts.{between_front}
+use Rattle.lp_tok.proofs.piece.front.Goals as goal
+
+-- the text is its front and the end
+pub returns : goal.returns
+returns c =
+    let cut = c.place_in.ensures in
+    let split = sym (take-append-drop c.place_in.result c.args.text.now) ∙ ap (λ x. take c.place_in.result c.args.text.now ++ x) cut.rest in
+    c.split_at.ensures.front ∙ between_front _ _ _ split (IsUtf8-take _ _ c.utf8.text cut.boundary)

@@ -1,0 +1,10 @@
+use Rattle.std.proofs.Common.{◌≡◌, ℕ, ◌+◌, ◌≤◌}
+use Rattle.lp_tok.specs.Left.{left, size, Follows}
+use Rattle.lp_tok.specs.Scans.{after_word}
+use Rattle.lp_tok.proofs.scan.after_word.Given as goal
+
+abbrev pub invariant-loop-c : goal.invariant-loop-c
+invariant-loop-c l = (after_word (left l.rest) ≡ after_word (left l.from)) × Follows l.from l.rest × (size l.rest ≤ size l.from)
+
+abbrev pub decreases-loop-c : goal.decreases-loop-c
+decreases-loop-c l = size l.rest

@@ -1,0 +1,16 @@
+pub mod Left
+pub mod Signs
+pub mod Scans
+pub mod Marks
+pub mod CodePieces
+pub mod Cut
+pub mod CutAnswers
+pub mod Token
+pub mod Words
+pub mod Pieces
+pub mod WordPieces
+pub mod Tokens
+pub mod Found
+pub mod Reads
+pub mod Escapes
+pub mod EscapeSteps

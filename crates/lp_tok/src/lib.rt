@@ -1,0 +1,20 @@
+//! The tokenizer of grammar files, the cut of user code, and string escapes.
+#![tactic(auto)]
+
+mod cut;
+mod escapes;
+mod piece;
+mod quoted;
+mod rest;
+mod scan;
+mod tok;
+mod tokenizer;
+mod word;
+
+#[cfg(test)]
+mod tests;
+
+pub use cut::{closed_code, closed_use, code_end};
+pub use escapes::{EscapeError, apply_string_escapes};
+pub use tok::{Error, ErrorCode, Spanned, Tok};
+pub use tokenizer::Tokenizer;

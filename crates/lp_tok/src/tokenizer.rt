@@ -1,0 +1,118 @@
+//! The tokens of a text, one at a time.
+#![tactic(auto, using(crate::proofs::Lefts::follows_follows, crate::proofs::Lefts::follows_itself, crate::proofs::Lefts::alone_follows))]
+
+ghost use Rattle.std.specs.Prelude.{◌≡◌, ◌+◌, ◌^◌, ◌<◌, ◌≤◌, ◌↔◌, List, [], ◌∷◌, length};
+ghost use Rattle.std.specs.Str.{chars};
+ghost use Rattle.std.specs.Iterator.{at_most};
+ghost use Rattle.lp_tok.specs.Left.{left, size, Follows};
+ghost use Rattle.lp_tok.specs.Token.{Item};
+ghost use Rattle.lp_tok.specs.Pieces.{Cut};
+ghost use Rattle.lp_tok.specs.WordPieces.{first_piece};
+ghost use Rattle.lp_tok.specs.Tokens.{place, AreTokensOf};
+ghost use Rattle.lp_tok.specs.Reads.{IsReadFrom, TokensLeft, GivesNext};
+
+use crate::cut::{CutEnd, cut};
+use crate::piece::{Piece, Texted, before, with_text};
+use crate::rest::{Rest, whole};
+use crate::tok::{Error, ErrorCode, Spanned, Tok};
+use crate::word::first_piece;
+
+/// Reads the tokens of a grammar file. After its first error it answers None.
+#[derive(Drop)]
+pub struct Tokenizer<'input> {
+    rest: &'input str,
+    end: usize,
+}
+
+impl<'input> Tokenizer<'input> {
+    /// Stands before the first token of the text. Places are bytes from the front of the text,
+    /// plus `shift`.
+    pub fn new(text: &'input str, shift: usize) -> Tokenizer<'input>
+        requires { length text.now + shift < 2 ^ 64 }
+        ensures { (items : List Item) → TokensLeft result items ↔ AreTokensOf text.now shift items }
+    {
+        Tokenizer {
+            rest: text,
+            end: text.len() + shift,
+        }
+    }
+}
+
+/// A token or an error as it is read, with what is left at its places.
+#[derive(Drop)]
+enum Reading<'a> {
+    Token(Rest<'a>, Tok<'a>, Rest<'a>),
+    Broken(ErrorCode, Rest<'a>),
+    End,
+}
+
+/// The first token or error. Blanks and comments before it are passed.
+fn read<'a>(from: Rest<'a>) -> Reading<'a>
+    requires { from.behind.now ≡ [] }
+    ensures { IsReadFrom from.entry result }
+{
+    let mut start = from;
+    loop {
+        match first_piece(start) {
+            Piece::Gap(after) => start = after,
+            Piece::Whole(token, after) => return Reading::Token(start, token, after),
+            Piece::Text(kind, front, to, after) => {
+                return Reading::Token(start, with_text(kind, before(front, to)), after);
+            }
+            Piece::Cut(kind, code) => return read_cut(start, kind, code),
+            Piece::Fault(code, at) => return Reading::Broken(code, at),
+            Piece::Nothing => return Reading::End,
+        }
+    }
+}
+
+/// The token that ends with its cut.
+fn read_cut<'a>(start: Rest<'a>, kind: Texted, code: Rest<'a>) -> Reading<'a>
+    requires piece { first_piece (left start) ≡ Cut kind (left code) }
+    requires follows { Follows start code }
+    requires shorter { size code < size start }
+    requires alone { start.behind.now ≡ [] }
+    ensures { IsReadFrom start.entry result }
+{
+    match cut(code) {
+        CutEnd::Stops(end) => Reading::Token(start, with_text(kind, before(code, end)), end),
+        CutEnd::Broken(error, at) => Reading::Broken(error, at),
+        CutEnd::Unclosed => Reading::Broken(ErrorCode::UnterminatedCode, start),
+    }
+}
+
+impl<'input> Iterator for Tokenizer<'input> {
+    type Item = Result<Spanned<Tok<'input>>, Error>;
+
+    ghost next_gives = { GivesNext };
+
+    ghost remaining = { λ s. at_most (length s.rest.now) };
+
+    fn next(&mut self) -> Option<Result<Spanned<Tok<'input>>, Error>> {
+        let end = self.end;
+        match read(whole(self.rest)) {
+            Reading::Token(start, token, after) => {
+                self.rest = after.text;
+                Some(Ok((place(end, start.text), token, place(end, after.text))))
+            }
+            Reading::Broken(code, at) => {
+                self.rest = "";
+                Some(Err(Error {
+                    location: place(end, at.text),
+                    code,
+                }))
+            }
+            Reading::End => {
+                self.rest = "";
+                None
+            }
+        }
+    }
+}
+
+/// The byte at which what is left begins, in a text that ends at the byte `end`.
+pub(crate) fn place(end: usize, text: &str) -> usize
+    ensures { result ≡ place end (chars text.now) }
+{
+    end.saturating_sub(text.len())
+}
