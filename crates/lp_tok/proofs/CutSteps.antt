@@ -148,8 +148,8 @@ pub stops_breaks : (cs r place : List ℕ) (code : ErrorCode) → StopsAt cs r �
 stops_breaks cs r place code a b =
     let same : r ≡ b.1 = (same_halt a.0 b.0 [] a.0 b.0 cs r b.1 refl refl a.1.goes_on b.2.goes_on (halts_may_end a.0 r a.2 a.3) (λ k next piece. let fault = b.3 in absurd cc) a.1.splits b.2.splits).1 in
     elim a.3 [
-      inl ends ↦ let piece = ends.2 in let fault = b.3 in cc
-    | inr nothing ↦ let fault = b.3 in cc
+      | inl ends ↦ let piece = ends.2 in let fault = b.3 in cc
+      | inr nothing ↦ let fault = b.3 in cc
     ]
 
 pub stops_unclosed : (cs r : List ℕ) → StopsAt cs r → IsUnclosed cs → ⊥
@@ -161,8 +161,7 @@ stops_unclosed cs r a b =
 -- the cut stops where one character is left
 pub last_left : (c : ℕ) (cs at after : List ℕ) → Some after ≡ past c at → StopsAt cs at → (after ≡ [] → StopsAt cs (c ∷ [])) × (StopsAt cs (c ∷ []) → after ≡ [])
 last_left c cs at after found stops =
-    let split = past_some c at after found in
-    (
+    let split = past_some c at after found in (
       λ done. subst (StopsAt cs) (split ∙ ap (λ x. c ∷ x) done) stops,
       λ last. let same = stops_same cs at (c ∷ []) stops last in cc,
     )

@@ -19,13 +19,13 @@ unescaped_escape q c (d ∷ cs) other escape = rw (ne_eqb c q other, eq-eqb c 92
 pub attribute_string : (n : ℕ) (cs : List ℕ) → after_attribute String n cs ≡ option_and_then (after_attribute NoString n) (past 34 (from_unescaped 34 cs))
 attribute_string n [] = refl
 attribute_string n (c ∷ []) = elim (eqb_tells c 34) [
-    inl h ↦ rw h.0 (rw h.0 refl)
+  | inl h ↦ rw h.0 (rw h.0 refl)
   | inr h ↦ elim (eqb_tells c 92) [ inl k ↦ rw (h.0, k.0) refl | inr k ↦ rw (h.0, k.0) refl ]
-  ]
+]
 attribute_string n (c ∷ d ∷ cs) = elim (eqb_tells c 34) [
-    inl h ↦ rw h.0 (rw h.0 refl)
+  | inl h ↦ rw h.0 (rw h.0 refl)
   | inr h ↦ elim (eqb_tells c 92) [ inl k ↦ rw (h.0, k.0) (attribute_string n cs) | inr k ↦ rw (h.0, k.0) (attribute_string n (d ∷ cs)) ]
-  ]
+]
 
 -- a character that means nothing in an attribute is passed
 pub attribute_other : (n c : ℕ) (cs : List ℕ) → (c ≡ 34 → ⊥) → (c ≡ 91 → ⊥) → (c ≡ 93 → ⊥) → (c ≡ 10 → ⊥) → after_attribute NoString n (c ∷ cs) ≡ after_attribute NoString n cs
@@ -35,25 +35,25 @@ attribute_other n c cs quote left right line = rw (ne_eqb c 34 quote, ne_eqb c 9
 pub past_some : (c : ℕ) (cs r : List ℕ) → Some r ≡ past c cs → cs ≡ c ∷ r
 past_some c [] r found = cc
 past_some c (d ∷ cs) r found = elim (eqb_tells d c) [
-    inl h ↦ let same = rw h.0 at found in let e : d ≡ c = h.1 in cc
+  | inl h ↦ let same = rw h.0 at found in let e : d ≡ c = h.1 in cc
   | inr h ↦ let none = rw h.0 at found in absurd cc
-  ]
+]
 
 -- a `/` with no `*` after it is passed
 pub comment_slash : (n : ℕ) (cs : List ℕ) → None ≡ past 42 cs → after_comment n (47 ∷ cs) ≡ after_comment n cs
 comment_slash n [] none = refl
 comment_slash n (d ∷ cs) none = elim (eqb_tells d 42) [
-    inl h ↦ let some = rw h.0 at none in absurd cc
+  | inl h ↦ let some = rw h.0 at none in absurd cc
   | inr h ↦ rw h.0 refl
-  ]
+]
 
 -- a `*` with no `/` after it is passed
 pub comment_star : (n : ℕ) (cs : List ℕ) → None ≡ past 47 cs → after_comment n (42 ∷ cs) ≡ after_comment n cs
 comment_star n [] none = refl
 comment_star n (d ∷ cs) none = elim (eqb_tells d 47) [
-    inl h ↦ let some = rw h.0 at none in absurd cc
+  | inl h ↦ let some = rw h.0 at none in absurd cc
   | inr h ↦ rw h.0 refl
-  ]
+]
 
 -- any other character is passed
 pub comment_other : (n c : ℕ) (cs : List ℕ) → (c ≡ 47 → ⊥) → (c ≡ 42 → ⊥) → after_comment n (c ∷ cs) ≡ after_comment n cs
@@ -94,9 +94,9 @@ pub past_hashes_none : (n : ℕ) (cs : List ℕ) → 0 < n → None ≡ past 35 
 past_hashes_none zero cs some none = absurd (omega arith)
 past_hashes_none (suc n) [] some none = refl
 past_hashes_none (suc n) (c ∷ cs) some none = elim (eqb_tells c 35) [
-    inl h ↦ let found = rw h.0 at none in absurd cc
+  | inl h ↦ let found = rw h.0 at none in absurd cc
   | inr h ↦ rw h.0 refl
-  ]
+]
 
 pub past_hashes_zero : (n : ℕ) (cs : List ℕ) → (0 < n → ⊥) → past_hashes n cs ≡ Some cs
 past_hashes_zero zero cs none = refl

@@ -60,9 +60,9 @@ stands_all from rest text so_far done = (so_far.seen, subst (StandsFor from) (ap
 pub stands_itself : (cs : List ℕ) → from_char 92 cs ≡ [] → StandsFor cs cs
 stands_itself [] none = stands_none
 stands_itself (c ∷ cs) none = elim (eqb_tells c 92) [
-    inl h ↦ let some = rw h.0 at none in absurd cc
+  | inl h ↦ let some = rw h.0 at none in absurd cc
   | inr h ↦ stands_plain c cs cs h.1 (stands_itself cs (rw h.0 at none))
-  ]
+]
 
 -- an escape that began after another place
 pub escape_begun : (start next : Rest) (e : Found) → Follows start next → EscapeEnds next next e → EscapeEnds start next e

@@ -13,11 +13,13 @@ use Rattle.lp_tok.specs.Scans.{starts_word, after_word, from_char, from_unescape
 use Rattle.lp_tok.specs.Token.{Token, Symbol, Text}
 use Rattle.lp_tok.specs.Words.{symbol, keyword}
 
--- a blank or a comment and what follows it; a token and what follows it; a token that ends with its cut,
--- and where that begins; an error and what is left at its place; or nothing
+-- a blank or a comment and what follows it; a token and what follows it; an attribute, what is left at its
+-- end, and what is read next; a token that ends with its cut, and where that begins; an error and what is
+-- left at its place; or nothing
 pub data Piece : Type 0 where
   Gap : List ℕ → Piece
   Whole : Token → List ℕ → Piece
+  Attribute : List ℕ → List ℕ → Piece
   Cut : Texted → List ℕ → Piece
   Fault : ErrorCode → List ℕ → Piece
   Nothing : Piece
@@ -98,9 +100,9 @@ abbrev pub attribute_end : List ℕ → Option (List ℕ)
 attribute_end cs = option_and_then (λ after. option_and_then (after_attribute NoString 0) (past left_bracket after)) (past bang cs)
 
 -- an attribute, which swallows the character after it, or `#`
-abbrev pub hash_piece : List ℕ → List ℕ → Option (List ℕ) → Piece
-hash_piece start next None = Whole (Symbol Hash) next
-hash_piece start next (Some after) = Whole (Text text.ShebangAttribute (text_between start after)) (past_any after)
+abbrev pub hash_piece : List ℕ → Option (List ℕ) → Piece
+hash_piece next None = Whole (Symbol Hash) next
+hash_piece next (Some end) = Attribute end (past_any end)
 
 -- a block comment
 abbrev pub comment_piece : List ℕ → Option (List ℕ) → Piece

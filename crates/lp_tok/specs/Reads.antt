@@ -13,9 +13,9 @@ use Rattle.lp_tok.specs.Tokens.{place, AreTokens}
 
 -- a token or an error comes first among those of what is left
 abbrev pub IsReadFrom : Rest → Reading → Type 0
-IsReadFrom from (Token start token after) =
-    ((end : ℕ) (items : List Item) → AreTokens end (left after) items → AreTokens end (left from) (Ok (place end (left start), token_of token, place end (left after)) ∷ items))
-    × Follows from start × Follows from after × (size after < size from)
+IsReadFrom from (Token start token stop after) =
+    ((end : ℕ) (items : List Item) → AreTokens end (left after) items → AreTokens end (left from) (Ok (place end (left start), token_of token, place end (left stop)) ∷ items))
+    × Follows from start × Follows from stop × Follows from after × (size after < size from)
 IsReadFrom from (Broken code at) = ((end : ℕ) → AreTokens end (left from) (Err (record { location = place end (left at); code = code }) ∷ [])) × Follows from at × (0 < size from)
 IsReadFrom from End = (end : ℕ) → AreTokens end (left from) []
 

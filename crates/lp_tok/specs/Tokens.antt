@@ -5,9 +5,10 @@ use Rattle.lp_tok.specs.declared.tok.Error.{Error}
 use Rattle.lp_tok.specs.declared.tok.ErrorCode.{ErrorCode}
 use Rattle.lp_tok.specs.declared.tok.ErrorCode.TheVariants.{UnterminatedCode}
 use Rattle.lp_tok.specs.declared.piece.Texted.{Texted}
+use Rattle.lp_tok.specs.declared.piece.Texted.TheVariants.{ShebangAttribute}
 use Rattle.lp_tok.specs.Token.{Token, Text, Item}
 use Rattle.lp_tok.specs.Cut.{StopsAt, BreaksAt, IsUnclosed}
-use Rattle.lp_tok.specs.Pieces.{Gap, Whole, Cut, Fault, Nothing, text_between}
+use Rattle.lp_tok.specs.Pieces.{Gap, Whole, Attribute, Cut, Fault, Nothing, text_between}
 use Rattle.lp_tok.specs.WordPieces.{first_piece}
 
 -- the byte at which what is left begins, in a text that ends at the byte `end`
@@ -20,6 +21,7 @@ pub data AreTokens (end : ℕ) : List ℕ → List Item → Type 0 where
   tokens_none : (cs : List ℕ) → first_piece cs ≡ Nothing → AreTokens end cs []
   tokens_gap : (cs rest : List ℕ) (items : List Item) → first_piece cs ≡ Gap rest → AreTokens end rest items → AreTokens end cs items
   tokens_whole : (cs rest : List ℕ) (token : Token) (items : List Item) → first_piece cs ≡ Whole token rest → AreTokens end rest items → AreTokens end cs (Ok (place end cs, token, place end rest) ∷ items)
+  tokens_attribute : (cs stop rest : List ℕ) (items : List Item) → first_piece cs ≡ Attribute stop rest → AreTokens end rest items → AreTokens end cs (Ok (place end cs, Text ShebangAttribute (text_between cs stop), place end stop) ∷ items)
   tokens_cut : (cs code rest : List ℕ) (kind : Texted) (items : List Item) → first_piece cs ≡ Cut kind code → StopsAt code rest → AreTokens end rest items → AreTokens end cs (Ok (place end cs, Text kind (text_between code rest), place end rest) ∷ items)
   tokens_fault : (cs at : List ℕ) (code : ErrorCode) → first_piece cs ≡ Fault code at → AreTokens end cs (Err (record { location = place end at; code = code }) ∷ [])
   tokens_breaks : (cs code at : List ℕ) (kind : Texted) (error : ErrorCode) → first_piece cs ≡ Cut kind code → BreaksAt code error at → AreTokens end cs (Err (record { location = place end at; code = error }) ∷ [])

@@ -65,7 +65,7 @@ opened_piece start c cs =
     if c == backquote then quoted_piece text.Escape UnterminatedEscape start cs (from_char backquote cs)
     else (if c == quote then quoted_piece text.StringLiteral UnterminatedStringLiteral start cs (from_unescaped quote cs)
     else (if c == apostrophe then lifetime_piece start cs
-    else (if c == hash then hash_piece start cs (attribute_end cs)
+    else (if c == hash then hash_piece cs (attribute_end cs)
     else (if c == slash then slash_piece start cs
     else word_or_blank start c cs))))
 

@@ -122,13 +122,7 @@ pub fn closed_code(text: &str) -> bool
 pub fn closed_use(text: &str) -> bool
     ensures { IsTrue result ↔ StopsAt (chars text.now ++ semicolon ∷ []) (semicolon ∷ []) }
 {
-    stops_at_last(
-        Rest {
-            text,
-            behind: ";",
-        },
-        ';',
-    )
+    stops_at_last(Rest { text, behind: ";" }, ';')
 }
 
 /// Whether the cut stops where the given character alone is left.

@@ -7,12 +7,11 @@ mod piece;
 mod quoted;
 mod rest;
 mod scan;
+#[cfg(test)]
+mod tests;
 mod tok;
 mod tokenizer;
 mod word;
-
-#[cfg(test)]
-mod tests;
 
 pub use cut::{closed_code, closed_use, code_end};
 pub use escapes::{EscapeError, apply_string_escapes};

@@ -41,6 +41,8 @@ pub(crate) enum Piece<'a> {
     Whole(Tok<'static>, Rest<'a>),
     /// A token with the text between two places, and what is left after the token.
     Text(Texted, Rest<'a>, Rest<'a>, Rest<'a>),
+    /// An attribute: what is left at its end, and what is read next.
+    Attribute(Rest<'a>, Rest<'a>),
     /// A token that ends with its cut, which begins here.
     Cut(Texted, Rest<'a>),
     /// An error, and what is left at its place.
@@ -251,11 +253,11 @@ fn arrow_at_piece<'a>(start: Rest<'a>, next: Rest<'a>) -> Piece<'a>
 pub(crate) fn hash_piece<'a>(start: Rest<'a>, next: Rest<'a>) -> Piece<'a>
     requires { Follows start next }
     ensures value { piece_of result
-        ≡ hash_piece (left start.entry) (left next.entry) (attribute_end (left next.entry)) }
+        ≡ hash_piece (left next.entry) (attribute_end (left next.entry)) }
     ensures ends { EndsAfter start.entry next.entry result }
 {
     match attribute_end(next) {
-        Some(after) => Piece::Text(Texted::ShebangAttribute, start, after, past_any(after)),
+        Some(end) => Piece::Attribute(end, past_any(end)),
         None => Piece::Whole(Tok::Hash, next),
     }
 }
@@ -327,7 +329,7 @@ fn lifetime_or_word<'a>(start: Rest<'a>, inside: Rest<'a>, end: Rest<'a>) -> Pie
     requires shorter { size end ≤ size inside }
     ensures value { piece_of result
         ≡ lifetime_or_word (left start.entry) (left inside.entry) (left end.entry)
-            (past apostrophe (left end.entry)) }
+        (past apostrophe (left end.entry)) }
     ensures ends { EndsAfter start.entry inside.entry result }
 {
     match past(end, '\'') {

@@ -124,13 +124,7 @@ fn past_maybe<'a>(rest: Rest<'a>, wanted: char) -> Rest<'a>
     ensures shorter { size result ≤ size rest.entry }
 {
     match first_char(rest) {
-        Some((c, after)) => {
-            if c == wanted {
-                after
-            } else {
-                rest
-            }
-        }
+        Some((c, after)) => { if c == wanted { after } else { rest } }
         None => rest,
     }
 }

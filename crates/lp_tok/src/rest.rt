@@ -68,13 +68,7 @@ pub(crate) fn past<'a>(rest: Rest<'a>, wanted: char) -> Option<Rest<'a>>
     ensures shorter { IfSome result (λ r. size r < size rest.entry) }
 {
     match first_char(rest) {
-        Some((c, after)) => {
-            if c == wanted {
-                Some(after)
-            } else {
-                None
-            }
-        }
+        Some((c, after)) => { if c == wanted { Some(after) } else { None } }
         None => None,
     }
 }

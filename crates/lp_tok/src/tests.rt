@@ -1,5 +1,6 @@
 //! Worked examples, and a table of texts with their tokens and errors.
 use super::*;
+use std::alloc::Global;
 use std::borrow::CowStr;
 use std::process::Abort;
 use std::test::Fail;
@@ -67,7 +68,13 @@ fn worked_tokens(rt: HostRuntime) -> Result<(), Fail> {
     is_token(&rt, &mut tokens, 7, &Tok::Id("foo"), 10);
     is_end(&rt, &mut tokens);
     let mut tokens = Tokenizer::new("=> a(b, c),", 0);
-    is_token(&rt, &mut tokens, 0, &Tok::EqualsGreaterThanCode(" a(b, c)"), 10);
+    is_token(
+        &rt,
+        &mut tokens,
+        0,
+        &Tok::EqualsGreaterThanCode(" a(b, c)"),
+        10,
+    );
     is_token(&rt, &mut tokens, 10, &Tok::Comma, 11);
     is_end(&rt, &mut tokens);
     let mut tokens = Tokenizer::new("use foo::bar; baz", 0);
@@ -194,7 +201,11 @@ fn texts(rt: HostRuntime) -> Result<(), Fail> {
     one(&rt, "r#\"a\"b\"#", &Tok::RegexLiteral("a\"b"));
     one(&rt, "r##\"\"#\"##", &Tok::RegexLiteral("\"#"));
     one(&rt, "#![a]", &Tok::ShebangAttribute("#![a]"));
-    one(&rt, "#![a[b]\"]\n\"]", &Tok::ShebangAttribute("#![a[b]\"]\n\"]"));
+    one(
+        &rt,
+        "#![a[b]\"]\n\"]",
+        &Tok::ShebangAttribute("#![a[b]\"]\n\"]"),
+    );
     Ok(())
 }
 
@@ -203,10 +214,22 @@ fn cuts(rt: HostRuntime) -> Result<(), Fail> {
     one(&rt, "=> a", &Tok::EqualsGreaterThanCode(" a"));
     one(&rt, "=>? a", &Tok::EqualsGreaterThanQuestionCode(" a"));
     one(&rt, "=>(a, b)", &Tok::EqualsGreaterThanCode("(a, b)"));
-    one(&rt, "=> \"}\" '}' x", &Tok::EqualsGreaterThanCode(" \"}\" '}' x"));
-    one(&rt, "=> /* } /* } */ } */ x", &Tok::EqualsGreaterThanCode(" /* } /* } */ } */ x"));
+    one(
+        &rt,
+        "=> \"}\" '}' x",
+        &Tok::EqualsGreaterThanCode(" \"}\" '}' x"),
+    );
+    one(
+        &rt,
+        "=> /* } /* } */ } */ x",
+        &Tok::EqualsGreaterThanCode(" /* } /* } */ } */ x"),
+    );
     one(&rt, "=> x // }", &Tok::EqualsGreaterThanCode(" x // }"));
-    one(&rt, "=> r#\"}\"# x", &Tok::EqualsGreaterThanCode(" r#\"}\"# x"));
+    one(
+        &rt,
+        "=> r#\"}\"# x",
+        &Tok::EqualsGreaterThanCode(" r#\"}\"# x"),
+    );
     one(&rt, "use ", &Tok::Use(" "));
     error(&rt, "=> \"a", 3, ErrorCode::UnterminatedStringLiteral);
     error(&rt, "=> ('a'", 4, ErrorCode::UnterminatedCharacterLiteral);
@@ -274,17 +297,27 @@ fn closed(rt: HostRuntime) -> Result<(), Fail> {
 fn code_ends(rt: HostRuntime) -> Result<(), Fail> {
     assert!(rt; code_end("a(b, c), d", 0) == Ok(7));
     assert!(rt; code_end("a, b", 2) == Ok(4));
-    assert!(rt; code_end("a [(}", 1)
-        == Err(Error { location: 1, code: ErrorCode::UnterminatedCode }));
-    assert!(rt; code_end("é \"", 2)
-        == Err(Error { location: 3, code: ErrorCode::UnterminatedStringLiteral }));
+    assert!(rt;
+        code_end("a [(}", 1)
+            == Err(Error {
+                location: 1,
+                code: ErrorCode::UnterminatedCode
+            })
+    );
+    assert!(rt;
+        code_end("é \"", 2)
+            == Err(Error {
+                location: 3,
+                code: ErrorCode::UnterminatedStringLiteral
+            })
+    );
     Ok(())
 }
 
 /// The escapes of the text stand for this value.
-fn value(rt: &HostRuntime, code: &str, want: &str, borrowed: bool) {
+fn value(rt: &impl Abort, alloc: Global, code: &str, want: &str, borrowed: bool) {
     if code.len() < 1000 {
-        match apply_string_escapes(rt.alloc(), code, 5) {
+        match apply_string_escapes(alloc, code, 5) {
             Ok(CowStr::Borrowed(text)) => assert!(rt; borrowed && text == want),
             Ok(CowStr::Owned(text)) => assert!(rt; !borrowed && text.as_str() == want),
             Err(_) => assert!(rt; false, "an error"),
@@ -293,9 +326,16 @@ fn value(rt: &HostRuntime, code: &str, want: &str, borrowed: bool) {
 }
 
 /// The escapes of the text have this error.
-fn fault(rt: &HostRuntime, code: &str, idx0: usize, location: usize, want: ErrorCode) {
+fn fault(
+    rt: &impl Abort,
+    alloc: Global,
+    code: &str,
+    idx0: usize,
+    location: usize,
+    want: ErrorCode,
+) {
     if code.len() < 1000 && idx0 < 1000 {
-        match apply_string_escapes(rt.alloc(), code, idx0) {
+        match apply_string_escapes(alloc, code, idx0) {
             Err(EscapeError::Bad(error)) => {
                 assert_eq!(rt; error.location, location);
                 assert!(rt; error.code == want, "another error");
@@ -307,15 +347,49 @@ fn fault(rt: &HostRuntime, code: &str, idx0: usize, location: usize, want: Error
 
 #[test]
 fn escapes_worked(rt: HostRuntime) -> Result<(), Fail> {
-    value(&rt, "foo", "foo", true);
-    value(&rt, "xy\\x7a", "xyz", false);
-    value(&rt, "\\\\ \\\" \\n\\r\\t\\0\u{e9}", "\\ \" \n\r\t\0\u{e9}", false);
-    value(&rt, "\\x4A\\x4a", "JJ", false);
-    fault(&rt, "latin-\\xb9", 10, 17, ErrorCode::UnrecognizedEscape);
-    fault(&rt, "\\x0", 5, 7, ErrorCode::UnterminatedAsciiEscape);
-    fault(&rt, "\\x", 5, 6, ErrorCode::UnterminatedAsciiEscape);
-    fault(&rt, "a\\", 3, 4, ErrorCode::UnrecognizedEscape);
-    fault(&rt, "\\q", 0, 1, ErrorCode::UnrecognizedEscape);
-    fault(&rt, "\\x8g", 0, 1, ErrorCode::UnrecognizedEscape);
+    value(&rt, rt.alloc(), "foo", "foo", true);
+    value(&rt, rt.alloc(), "xy\\x7a", "xyz", false);
+    value(
+        &rt,
+        rt.alloc(),
+        "\\\\ \\\" \\n\\r\\t\\0\u{e9}",
+        "\\ \" \n\r\t\0\u{e9}",
+        false,
+    );
+    value(&rt, rt.alloc(), "\\x4A\\x4a", "JJ", false);
+    fault(
+        &rt,
+        rt.alloc(),
+        "latin-\\xb9",
+        10,
+        17,
+        ErrorCode::UnrecognizedEscape,
+    );
+    fault(
+        &rt,
+        rt.alloc(),
+        "\\x0",
+        5,
+        7,
+        ErrorCode::UnterminatedAsciiEscape,
+    );
+    fault(
+        &rt,
+        rt.alloc(),
+        "\\x",
+        5,
+        6,
+        ErrorCode::UnterminatedAsciiEscape,
+    );
+    fault(&rt, rt.alloc(), "a\\", 3, 4, ErrorCode::UnrecognizedEscape);
+    fault(&rt, rt.alloc(), "\\q", 0, 1, ErrorCode::UnrecognizedEscape);
+    fault(
+        &rt,
+        rt.alloc(),
+        "\\x8g",
+        0,
+        1,
+        ErrorCode::UnrecognizedEscape,
+    );
     Ok(())
 }

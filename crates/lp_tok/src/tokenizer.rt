@@ -41,7 +41,8 @@ impl<'input> Tokenizer<'input> {
 /// A token or an error as it is read, with what is left at its places.
 #[derive(Drop)]
 enum Reading<'a> {
-    Token(Rest<'a>, Tok<'a>, Rest<'a>),
+    /// Where it begins, the token, where it ends, and where reading goes on.
+    Token(Rest<'a>, Tok<'a>, Rest<'a>, Rest<'a>),
     Broken(ErrorCode, Rest<'a>),
     End,
 }
@@ -55,9 +56,13 @@ fn read<'a>(from: Rest<'a>) -> Reading<'a>
     loop {
         match first_piece(start) {
             Piece::Gap(after) => start = after,
-            Piece::Whole(token, after) => return Reading::Token(start, token, after),
+            Piece::Whole(token, after) => return Reading::Token(start, token, after, after),
             Piece::Text(kind, front, to, after) => {
-                return Reading::Token(start, with_text(kind, before(front, to)), after);
+                return Reading::Token(start, with_text(kind, before(front, to)), after, after);
+            }
+            Piece::Attribute(end, after) => {
+                let token = with_text(Texted::ShebangAttribute, before(start, end));
+                return Reading::Token(start, token, end, after);
             }
             Piece::Cut(kind, code) => return read_cut(start, kind, code),
             Piece::Fault(code, at) => return Reading::Broken(code, at),
@@ -75,7 +80,7 @@ fn read_cut<'a>(start: Rest<'a>, kind: Texted, code: Rest<'a>) -> Reading<'a>
     ensures { IsReadFrom start.entry result }
 {
     match cut(code) {
-        CutEnd::Stops(end) => Reading::Token(start, with_text(kind, before(code, end)), end),
+        CutEnd::Stops(end) => Reading::Token(start, with_text(kind, before(code, end)), end, end),
         CutEnd::Broken(error, at) => Reading::Broken(error, at),
         CutEnd::Unclosed => Reading::Broken(ErrorCode::UnterminatedCode, start),
     }
@@ -91,9 +96,9 @@ impl<'input> Iterator for Tokenizer<'input> {
     fn next(&mut self) -> Option<Result<Spanned<Tok<'input>>, Error>> {
         let end = self.end;
         match read(whole(self.rest)) {
-            Reading::Token(start, token, after) => {
+            Reading::Token(start, token, stop, after) => {
                 self.rest = after.text;
-                Some(Ok((place(end, start.text), token, place(end, after.text))))
+                Some(Ok((place(end, start.text), token, place(end, stop.text))))
             }
             Reading::Broken(code, at) => {
                 self.rest = "";

@@ -75,7 +75,13 @@ fn opened_piece<'a>(start: Rest<'a>, c: char, next: Rest<'a>) -> Piece<'a>
 {
     if c == '`' {
         let end = from_char(next, '`');
-        quoted_piece(Texted::Escape, ErrorCode::UnterminatedEscape, start, next, end)
+        quoted_piece(
+            Texted::Escape,
+            ErrorCode::UnterminatedEscape,
+            start,
+            next,
+            end,
+        )
     } else if c == '"' {
         let end = from_unescaped(next, '"');
         quoted_piece(

@@ -9,8 +9,7 @@ loop-c-preserved-in-Some-past c =
     let inv = c.loop-c.invariant in
     let first = c.in-Some.ensures in
     let string = c.from_unescaped.ensures in
-    let closed = c.in-Some-past.ensures in
-    (
+    let closed = c.in-Some-past.ensures in (
       sym (attribute_passes _ _ _ _ first.first _ _ c.if-c-eq34.true string.value closed.value) ∙ inv.0,
       follows_follows _ _ _ inv.1 (follows_follows _ _ _ first.follows (follows_follows _ _ _ string.follows closed.follows)),
       omega (arith, inv.2, first.shorter, string.shorter, closed.shorter),
@@ -20,8 +19,7 @@ loop-c-preserved-in-Some-past c =
 pub loop-c-preserved-then-c-eq91 : goal.loop-c-preserved-then-c-eq91
 loop-c-preserved-then-c-eq91 c =
     let inv = c.loop-c.invariant in
-    let first = c.in-Some.ensures in
-    (
+    let first = c.in-Some.ensures in (
       sym (attribute_opens _ _ _ _ first.first c.if-c-eq91.true) ∙ inv.0,
       follows_follows _ _ _ inv.1 first.follows,
       omega (arith, inv.2, first.shorter),

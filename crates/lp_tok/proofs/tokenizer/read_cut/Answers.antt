@@ -7,10 +7,10 @@ use Rattle.lp_tok.proofs.tokenizer.read_cut.Goals as goal
 
 pub returns-in-Stops : goal.returns-in-Stops
 returns-in-Stops c =
-    let cut = c.in-Stops.ensures in
-    (
+    let cut = c.in-Stops.ensures in (
       λ end items rest. cut_tokens _ _ _ c.args.kind _ end items c.requires.piece cut.0 (c.with_text.ensures ∙ ap (Text c.args.kind) c.before-in-Stops.ensures) rest,
       follows_itself _,
+      follows_follows _ _ _ c.requires.follows cut.1,
       follows_follows _ _ _ c.requires.follows cut.1,
       omega (arith, c.requires.shorter, size_follows c.args.code c.in-Stops.end cut.1),
     )

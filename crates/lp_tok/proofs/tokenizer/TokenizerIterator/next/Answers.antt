@@ -9,22 +9,23 @@ pub returns-in-Token-clause-steps : goal.returns-in-Token-clause-steps
 returns-in-Token-clause-steps c =
     let read = c.in-Token.ensures in
     let alone = c.whole.ensures.behind in
-    λ items rest. next_token _ _ _ _ _ _ _ _ _ _ items c.whole.ensures.value
-        (left_alone c.in-Token.start (alone_follows c.whole.result c.in-Token.start read.1 alone))
-        (left_alone c.in-Token.after (alone_follows c.whole.result c.in-Token.after read.2 alone))
-        c.place.ensures c.place-in-Token.ensures (read.0 c.args.self.now.end) rest
+    λ items rest. next_token _ _ _ _ _ _ _ _ _ _ _ _ items c.whole.ensures.value
+    (left_alone c.in-Token.start (alone_follows c.whole.result c.in-Token.start read.1 alone))
+    (left_alone c.in-Token.stop (alone_follows c.whole.result c.in-Token.stop read.2 alone))
+    (left_alone c.in-Token.after (alone_follows c.whole.result c.in-Token.after read.3 alone))
+    c.place.ensures c.place-in-Token.ensures (read.0 c.args.self.now.end) rest
 
 -- an error was read, and nothing is left
 pub returns-in-Broken-clause-steps : goal.returns-in-Broken-clause-steps
 returns-in-Broken-clause-steps c =
     let read = c.in-Broken.ensures in
     λ items rest. next_error _ _ _ _ _ _ _ items c.whole.ensures.value
-        (left_alone c.in-Broken.at (alone_follows c.whole.result c.in-Broken.at read.1 c.whole.ensures.behind))
-        c.place-in-Broken.ensures (read.0 c.args.self.now.end) (no_tokens _ _ items nothing_left rest)
+    (left_alone c.in-Broken.at (alone_follows c.whole.result c.in-Broken.at read.1 c.whole.ensures.behind))
+    c.place-in-Broken.ensures (read.0 c.args.self.now.end) (no_tokens _ _ items nothing_left rest)
 
 -- nothing is left
 pub returns-in-End-clause-steps : goal.returns-in-End-clause-steps
 returns-in-End-clause-steps c = (
-    subst (λ x. AreTokens c.args.self.now.end x []) c.whole.ensures.value (c.in-End.ensures c.args.self.now.end),
-    tokens_none _ nothing_left,
-  )
+  subst (λ x. AreTokens c.args.self.now.end x []) c.whole.ensures.value (c.in-End.ensures c.args.self.now.end),
+  tokens_none _ nothing_left,
+)
