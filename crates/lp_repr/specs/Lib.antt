@@ -1,0 +1,5 @@
+pub mod Names
+pub mod Numbering
+pub mod NormalCode
+pub mod StateParts
+pub mod ItemChoice

@@ -1,6 +1,6 @@
 //! Texts and lists that contracts see as their contents.
 
-ghost use Rattle.std.specs.Prelude.{◌≡◌, string_bytes};
+ghost use Rattle.std.specs.Prelude.{◌≡◌, string_bytes, IfOk, Some};
 
 use std::alloc::{AllocError, Global};
 use std::cmp::Ordering;
@@ -21,7 +21,9 @@ impl Model for Text {
 
 impl Text {
     /// A copy of a text.
-    pub fn from_str(alloc: Global, text: &str) -> Result<Text, AllocError> {
+    pub fn from_str(alloc: Global, text: &str) -> Result<Text, AllocError>
+        ensures { IfOk result (λ t. t ≡ text.now) }
+    {
         Ok(Text(String::from_str(alloc, text)?))
     }
 
@@ -41,6 +43,8 @@ impl Clone for Text {
 }
 
 impl fmt::Display for Text {
+    ghost output = { λ t. Some t };
+
     fn fmt<W: fmt::Write>(&self, f: &mut fmt::Formatter<W>) -> fmt::Result {
         f.write_str(self.as_str())
     }
