@@ -1,0 +1,18 @@
+//! The parts of modules that stand by themselves: table entries, gotos as ranges, the variants of
+//! symbols, filters of type parameters, and the texts that forms share.
+#![tactic(auto)]
+
+pub mod comment;
+pub mod entries;
+pub mod filter;
+pub mod gotos;
+pub mod machine_parameters;
+pub mod number_type;
+pub mod phantom;
+pub mod texts;
+pub mod variants;
+
+pub use comment::Comment;
+pub use filter::filter_type_parameters_and_where_clauses;
+pub use machine_parameters::MachineParameters;
+pub use number_type::state_type;
