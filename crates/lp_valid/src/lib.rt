@@ -1,0 +1,19 @@
+//! Checks of grammars and of their tables.
+#![tactic(auto)]
+
+mod actions;
+mod declared;
+mod grammars;
+mod item_sets;
+mod names;
+mod prefixes;
+mod spelling;
+mod tables;
+mod terminals;
+
+pub use grammars::{GrammarFault, check_grammar};
+pub use names::is_identifier;
+pub use tables::{TableFault, check_tables};
+
+#[cfg(test)]
+mod tests;
