@@ -10,6 +10,7 @@ use lp_repr::repr::{
 use lp_repr::{Item, Items, Lr1State, Text, Token};
 use std::alloc::{AllocError, Global};
 use std::collections::BTreeMap;
+use std::process::Abort;
 use std::test::Fail;
 
 fn text(alloc: Global, text: &str) -> Result<Text, AllocError> {
@@ -196,36 +197,49 @@ fn passes(rt: HostRuntime) -> Result<(), Fail> {
 }
 
 fn refuses_tables(
-    rt: &HostRuntime,
+    rt: &impl Abort,
+    alloc: Global,
     states: &[Lr1State],
     rule: u8,
     state: usize,
 ) -> Result<(), Fail> {
-    let alloc = rt.alloc();
     let grammar = grammar(alloc)?;
     let fault = TableFault::Rule { rule, state };
-    assert_eq!(*rt; check_tables(alloc, &grammar, 0, states), Err(fault));
+    assert_eq!(rt; check_tables(alloc, &grammar, 0, states), Err(fault));
     Ok(())
 }
 
 #[test]
 fn refuses_each_table(rt: HostRuntime) -> Result<(), Fail> {
     let alloc = rt.alloc();
-    refuses_tables(&rt, &[], 1, 0)?;
+    refuses_tables(&rt, alloc, &[], 1, 0)?;
     let mut first = state_0(alloc)?;
     first.items = one(alloc, item(alloc, 1, 0))?;
     refuses_tables(
         &rt,
+        alloc,
         &[first, reducing(alloc, 0)?, reducing(alloc, 1)?],
         2,
         0,
     )?;
     let mut second = reducing(alloc, 0)?;
     second.reductions = one(alloc, reduction(alloc, 9)?)?;
-    refuses_tables(&rt, &[state_0(alloc)?, second, reducing(alloc, 1)?], 3, 1)?;
+    refuses_tables(
+        &rt,
+        alloc,
+        &[state_0(alloc)?, second, reducing(alloc, 1)?],
+        3,
+        1,
+    )?;
     let mut third = reducing(alloc, 1)?;
     third.items = Items::new(alloc);
-    refuses_tables(&rt, &[state_0(alloc)?, reducing(alloc, 0)?, third], 4, 0)?;
+    refuses_tables(
+        &rt,
+        alloc,
+        &[state_0(alloc)?, reducing(alloc, 0)?, third],
+        4,
+        0,
+    )?;
     Ok(())
 }
 
@@ -236,6 +250,7 @@ fn refuses_each_action(rt: HostRuntime) -> Result<(), Fail> {
     first.shifts = BTreeMap::new(alloc);
     refuses_tables(
         &rt,
+        alloc,
         &[first, reducing(alloc, 0)?, reducing(alloc, 1)?],
         5,
         0,
@@ -244,6 +259,7 @@ fn refuses_each_action(rt: HostRuntime) -> Result<(), Fail> {
     first.reductions = one(alloc, reduction(alloc, 0)?)?;
     refuses_tables(
         &rt,
+        alloc,
         &[first, reducing(alloc, 0)?, reducing(alloc, 1)?],
         6,
         0,
@@ -253,11 +269,18 @@ fn refuses_each_action(rt: HostRuntime) -> Result<(), Fail> {
     twice.push(reduction(alloc, 0)?)?;
     twice.push(reduction(alloc, 0)?)?;
     second.reductions = Items(twice);
-    refuses_tables(&rt, &[state_0(alloc)?, second, reducing(alloc, 1)?], 7, 1)?;
+    refuses_tables(
+        &rt,
+        alloc,
+        &[state_0(alloc)?, second, reducing(alloc, 1)?],
+        7,
+        1,
+    )?;
     let mut first = state_0(alloc)?;
     first.gotos = BTreeMap::new(alloc);
     refuses_tables(
         &rt,
+        alloc,
         &[first, reducing(alloc, 0)?, reducing(alloc, 1)?],
         8,
         0,
@@ -265,9 +288,9 @@ fn refuses_each_action(rt: HostRuntime) -> Result<(), Fail> {
     Ok(())
 }
 
-fn refuses(rt: &HostRuntime, grammar: &Grammar, rule: u8, place: usize) {
+fn refuses(rt: &impl Abort, alloc: Global, grammar: &Grammar, rule: u8, place: usize) {
     let fault = GrammarFault::Rule { rule, place };
-    assert_eq!(*rt; check_grammar(rt.alloc(), grammar), Err(fault));
+    assert_eq!(rt; check_grammar(alloc, grammar), Err(fault));
 }
 
 #[test]
@@ -281,7 +304,7 @@ fn refuses_each_name(rt: HostRuntime) -> Result<(), Fail> {
     broken
         .nonterminals
         .insert(nonterminal(alloc, "__S")?, data(Items(starts)))?;
-    refuses(&rt, &broken, 1, 0);
+    refuses(&rt, alloc, &broken, 1, 0);
     let mut broken = grammar(alloc)?;
     let name = text(alloc, "self")?;
     broken.parameters = one(
@@ -291,20 +314,20 @@ fn refuses_each_name(rt: HostRuntime) -> Result<(), Fail> {
             ty: unit(alloc),
         },
     )?;
-    refuses(&rt, &broken, 2, 1);
+    refuses(&rt, alloc, &broken, 2, 1);
     let mut broken = grammar(alloc)?;
     broken.uses = one(alloc, text(alloc, "a__b")?)?;
-    refuses(&rt, &broken, 3, 11);
+    refuses(&rt, alloc, &broken, 3, 11);
     let mut broken = grammar(alloc)?;
     let unknown = Symbol::Terminal(quoted(alloc, "b")?);
     let production = production(alloc, "S", unknown, 1)?;
     broken
         .nonterminals
         .insert(nonterminal(alloc, "S")?, data(one(alloc, production)?))?;
-    refuses(&rt, &broken, 4, 0);
+    refuses(&rt, alloc, &broken, 4, 0);
     let mut broken = grammar(alloc)?;
     broken.conversions = BTreeMap::new(alloc);
-    refuses(&rt, &broken, 5, 0);
+    refuses(&rt, alloc, &broken, 5, 0);
     Ok(())
 }
 
@@ -320,7 +343,7 @@ fn refuses_each_action_rule(rt: HostRuntime) -> Result<(), Fail> {
     broken
         .nonterminals
         .insert(nonterminal(alloc, "S")?, data(one(alloc, empty)?))?;
-    refuses(&rt, &broken, 6, 0);
+    refuses(&rt, alloc, &broken, 6, 0);
     let mut broken = grammar(alloc)?;
     let a = InlinedSymbol::Original(Symbol::Terminal(quoted(alloc, "a")?));
     broken.action_fn_defns.0.push(ActionFnDefn {
@@ -331,19 +354,19 @@ fn refuses_each_action_rule(rt: HostRuntime) -> Result<(), Fail> {
             symbols: one(alloc, a)?,
         },
     })?;
-    refuses(&rt, &broken, 7, 2);
+    refuses(&rt, alloc, &broken, 7, 2);
     let mut broken = grammar(alloc)?;
     broken.action_fn_defns.0.push(ActionFnDefn {
         fallible: true,
         ret_type: unit(alloc),
         kind: ActionFnDefnKind::Lookaround(LookaroundActionFn::Lookahead),
     })?;
-    refuses(&rt, &broken, 8, 2);
+    refuses(&rt, alloc, &broken, 8, 2);
     let mut broken = grammar(alloc)?;
     broken.uses_error_recovery = true;
-    refuses(&rt, &broken, 9, 1);
+    refuses(&rt, alloc, &broken, 9, 1);
     let mut broken = grammar(alloc)?;
     broken.terminals.all.0.push(quoted(alloc, "a")?)?;
-    refuses(&rt, &broken, 10, 1);
+    refuses(&rt, alloc, &broken, 10, 1);
     Ok(())
 }
