@@ -1,5 +1,5 @@
 -- One piece more in a cut, and that a cut has one answer.
-use Rattle.std.proofs.Common.{◌≡◌, ℕ, ◌+◌, ◌-◌, ◌<◌, ◌≤◌, List, [], ◌∷◌, ◌++◌, ◌⊎◌, inl, inr, ⊎_elim, refl, sym, ap, ◌∙◌, subst, append_assoc, append-nil, arith, zero, suc}
+use Rattle.std.proofs.Common.{◌≡◌, ℕ, ◌+◌, ◌<◌, ◌≤◌, List, [], ◌∷◌, ◌++◌, ◌⊎◌, inl, inr, ⊎_elim, refl, sym, ap, ◌∙◌, subst, append_assoc, append-nil, arith, zero, suc}
 use Rattle.std.specs.Prelude.{Some, None}
 use Rattle.std.proofs.lemmas.Bool.{eq-eqb}
 use Rattle.lp_tok.specs.Scans.{past}
@@ -7,7 +7,7 @@ use Rattle.lp_tok.proofs.ScanSteps.{past_some}
 use Rattle.lp_tok.specs.declared.tok.ErrorCode.{ErrorCode}
 use Rattle.lp_tok.specs.declared.quoted.Kind.{Kind}
 use Rattle.lp_tok.specs.declared.quoted.Kind.TheVariants.{Opening, Closing, Separating, Plain}
-use Rattle.lp_tok.specs.CodePieces.{Piece, code_piece, Whole, Fault, Nothing}
+use Rattle.lp_tok.specs.CodePieces.{code_piece, Whole, Fault, Nothing}
 use Rattle.lp_tok.specs.Cut.{Splits, splits_none, splits_one, openers, closers, balance, open_after, IsEnder, IsInside, MayEnd, StopsAt, BreaksAt, IsUnclosed}
 
 -- the pieces read so far, none of which ends the cut, with n brackets open
@@ -179,3 +179,18 @@ stops_at_equal a b c d e f s = subst (λ x. StopsAt x d) e (subst (StopsAt a) f 
 
 pub breaks_at_equal : (a b c d : List ℕ) (code : ErrorCode) → a ≡ c → b ≡ d → BreaksAt a code b → BreaksAt c code d
 breaks_at_equal a b c d code e f s = subst (λ x. BreaksAt x code d) e (subst (BreaksAt a code) f s)
+
+-- a cut fails at one place
+pub breaks_same : (cs p q : List ℕ) (code other : ErrorCode) → BreaksAt cs code p → BreaksAt cs other q → (code ≡ other) × (p ≡ q)
+breaks_same cs p q code other a b =
+    let same : a.1 ≡ b.1 = (same_halt a.0 b.0 [] a.0 b.0 cs a.1 b.1 refl refl a.2.goes_on b.2.goes_on (λ k next piece. let fault = a.3 in absurd cc) (λ k next piece. let fault = b.3 in absurd cc) a.2.splits b.2.splits).1 in
+    let one = a.3 in
+    let two = b.3 in
+    (cc, cc)
+
+pub breaks_unclosed : (cs p : List ℕ) (code : ErrorCode) → BreaksAt cs code p → IsUnclosed cs → ⊥
+breaks_unclosed cs p code a b =
+    let same : a.1 ≡ b.1 = (same_halt a.0 b.0 [] a.0 b.0 cs a.1 b.1 refl refl a.2.goes_on b.2.goes_on (λ k next piece. let fault = a.3 in absurd cc) (λ k next piece. let nothing = b.3 in absurd cc) a.2.splits b.2.splits).1 in
+    let one = a.3 in
+    let two = b.3 in
+    cc

@@ -1,5 +1,5 @@
 -- A piece that ends after its first character takes at least that.
-use Rattle.std.proofs.Common.{◌<◌, ◌≤◌, arith}
+use Rattle.std.proofs.Common.{◌<◌, arith}
 use Rattle.lp_tok.specs.declared.rest.Rest.{Rest}
 use Rattle.lp_tok.specs.declared.piece.Piece.{Piece}
 use Rattle.lp_tok.specs.declared.piece.Piece.TheVariants as found

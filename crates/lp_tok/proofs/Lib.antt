@@ -4,3 +4,5 @@ pub mod CutSteps
 pub mod Found
 pub mod Readings
 pub mod Unescaped
+pub mod OneList
+pub mod SeenSoFar

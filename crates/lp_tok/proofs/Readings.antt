@@ -1,19 +1,17 @@
 -- Steps of the tokenizer, and that a text has one list of tokens.
-use Rattle.std.proofs.Common.{◌≡◌, ℕ, ◌+◌, ◌-◌, ◌<◌, ◌≤◌, List, [], ◌∷◌, ◌⊎◌, inl, inr, refl, sym, ap, ◌∙◌, subst, length, arith, Ok, Err, IsUtf8}
+use Rattle.std.proofs.Common.{◌≡◌, ℕ, ◌-◌, ◌<◌, ◌≤◌, List, [], ◌∷◌, refl, sym, ap, ◌∙◌, subst, length, arith, Ok, Err, IsUtf8}
 use Rattle.std.specs.Str.{chars}
 use Rattle.std.proofs.lemmas.Str.{chars-nil, encodes-chars}
 use Rattle.lp_tok.specs.declared.rest.Rest.{Rest}
-use Rattle.lp_tok.specs.declared.tok.Error.{Error}
 use Rattle.lp_tok.specs.declared.tok.ErrorCode.{ErrorCode}
-use Rattle.lp_tok.specs.declared.tok.ErrorCode.TheVariants.{UnterminatedCode}
 use Rattle.lp_tok.specs.declared.piece.Texted.TheVariants.{ShebangAttribute}
 use Rattle.lp_tok.specs.declared.piece.Texted.{Texted}
 use Rattle.lp_tok.specs.declared.tokenizer.Reading.{Reading}
 use Rattle.lp_tok.specs.declared.tokenizer.Reading.TheVariants as reading
 use Rattle.lp_tok.specs.Left.{left, size, Follows}
 use Rattle.lp_tok.specs.Token.{Token, Text, Item}
-use Rattle.lp_tok.specs.Cut.{StopsAt, BreaksAt, IsUnclosed}
-use Rattle.lp_tok.specs.Pieces.{Piece, Gap, Whole, Attribute, Cut, Fault, Nothing, text_between}
+use Rattle.lp_tok.specs.Cut.{StopsAt}
+use Rattle.lp_tok.specs.Pieces.{Gap, Whole, Attribute, Cut, Nothing, text_between}
 use Rattle.lp_tok.specs.WordPieces.{first_piece}
 use Rattle.lp_tok.specs.Tokens.{place, AreTokens, tokens_none, tokens_gap, tokens_whole, tokens_attribute, tokens_cut, tokens_fault, tokens_breaks, tokens_unclosed}
 use Rattle.lp_tok.specs.Reads.{IsReadFrom}

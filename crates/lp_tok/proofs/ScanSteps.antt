@@ -1,9 +1,9 @@
 -- What one character does to the end of a string, and a string to the end of an attribute.
-use Rattle.std.proofs.Common.{◌≡◌, ℕ, ◌+◌, ◌-◌, ◌<◌, Bool, true, false, List, [], ◌∷◌, refl, sym, ap, ◌∙◌, inl, inr, zero, suc, arith}
-use Rattle.std.specs.Prelude.{Option, Some, None, option_and_then, if◌then◌else◌, ◌==◌}
+use Rattle.std.proofs.Common.{◌≡◌, ℕ, ◌+◌, ◌-◌, ◌<◌, List, [], ◌∷◌, refl, sym, ap, ◌∙◌, inl, inr, zero, suc, arith}
+use Rattle.std.specs.Prelude.{Some, None, option_and_then, if◌then◌else◌, ◌==◌}
 use Rattle.std.proofs.lemmas.Bool.{ne_eqb, eq-eqb}
 use Rattle.std.proofs.lemmas.Bool.Decides.{eqb_tells}
-use Rattle.lp_tok.specs.Scans.{past, past_any, from_unescaped, past_hashes, after_comment, after_attribute, String, NoString, Escape}
+use Rattle.lp_tok.specs.Scans.{past, past_any, from_unescaped, past_hashes, after_comment, after_attribute, String, NoString}
 
 -- a character that is neither the quote nor a `\` is passed
 pub unescaped_plain : (q c : ℕ) (cs : List ℕ) → (c ≡ q → ⊥) → (c ≡ 92 → ⊥) → from_unescaped q (c ∷ cs) ≡ from_unescaped q cs

@@ -1,6 +1,6 @@
 -- The pieces of user code: strings, quoted characters, raw strings and words, comments, brackets, and
 -- single characters.
-use Rattle.std.specs.Prelude.{ℕ, ◌-◌, ◌==◌, ◌||◌, Bool, List, [], ◌∷◌, Option, Some, None, if◌then◌else◌}
+use Rattle.std.specs.Prelude.{ℕ, ◌-◌, ◌==◌, ◌||◌, List, [], ◌∷◌, Option, Some, None, if◌then◌else◌}
 use Rattle.lp_tok.specs.declared.tok.ErrorCode.{ErrorCode}
 use Rattle.lp_tok.specs.declared.tok.ErrorCode.TheVariants.{UnterminatedStringLiteral, UnterminatedCharacterLiteral, ExpectedStringLiteral, UnterminatedBlockComment}
 use Rattle.lp_tok.specs.declared.quoted.Kind.{Kind}

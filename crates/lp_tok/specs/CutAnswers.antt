@@ -1,5 +1,5 @@
 -- What the calls on user code answer.
-use Rattle.std.specs.Prelude.{◌≡◌, ℕ, ◌<◌, ◌≤◌, List, [], ◌∷◌}
+use Rattle.std.specs.Prelude.{◌<◌, ◌≤◌}
 use Rattle.lp_tok.specs.declared.rest.Rest.{Rest}
 use Rattle.lp_tok.specs.declared.quoted.CodePiece.{CodePiece}
 use Rattle.lp_tok.specs.declared.quoted.CodePiece.TheVariants as found

@@ -1,5 +1,5 @@
 -- What the steps over a string literal's inside answer.
-use Rattle.std.specs.Prelude.{◌≡◌, ℕ, ◌<◌, List, [], ◌∷◌, ◌++◌, Option, Some, None, encode_utf8_all, if◌then◌else◌, nat_lt, ◌&&◌, ◌+◌, ◌*◌}
+use Rattle.std.specs.Prelude.{ℕ, ◌<◌, Option, Some, None, if◌then◌else◌, nat_lt, ◌&&◌, ◌+◌, ◌*◌}
 use Rattle.std.specs.Char.{digit_value}
 use Rattle.lp_tok.specs.declared.rest.Rest.{Rest}
 use Rattle.lp_tok.specs.declared.escapes.Escaped.{Escaped as FoundEscape}

@@ -1,8 +1,7 @@
 -- The text that the inside of a string literal stands for.
-use Rattle.std.specs.Prelude.{◌≡◌, ◌≢◌, ℕ, ◌+◌, ◌*◌, ◌==◌, ◌&&◌, nat_lt, List, [], ◌∷◌, if◌then◌else◌, length, Result, encode_utf8_all, ⊤}
+use Rattle.std.specs.Prelude.{◌≡◌, ◌≢◌, ℕ, ◌+◌, ◌*◌, ◌==◌, ◌&&◌, nat_lt, List, [], ◌∷◌, if◌then◌else◌, length, encode_utf8_all, ⊤}
 use Rattle.std.specs.Str.{chars}
 use Rattle.std.specs.Char.{digit_value}
-use Rattle.std.specs.Cow.{cow_str_bytes}
 use Rattle.std.specs.declared.borrow.CowStr.{CowStr}
 use Rattle.std.specs.declared.borrow.CowStr.TheVariants as text
 use Rattle.lp_tok.specs.declared.tok.ErrorCode.{ErrorCode}

@@ -1,6 +1,5 @@
 -- What the calls on grammar files answer.
-use Rattle.std.specs.Prelude.{◌≡◌, ℕ, ◌<◌, ◌≤◌, [], ◌∷◌, List, Option, None, Some, Ok, Err, Result, MatchOption}
-use Rattle.std.specs.Str.{chars}
+use Rattle.std.specs.Prelude.{◌<◌, ◌≤◌}
 use Rattle.lp_tok.specs.declared.rest.Rest.{Rest}
 use Rattle.lp_tok.specs.declared.piece.Piece.{Piece as FoundPiece}
 use Rattle.lp_tok.specs.declared.piece.Piece.TheVariants as found

@@ -1,5 +1,5 @@
 -- What a mark inside a block comment, and the end of a raw string, say of the characters that are left.
-use Rattle.std.specs.Prelude.{◌≡◌, ℕ, ◌+◌, ◌-◌, ◌<◌, ◌==◌, List, [], ◌∷◌, Option, Some, None, if◌then◌else◌}
+use Rattle.std.specs.Prelude.{◌≡◌, ℕ, ◌+◌, ◌-◌, ◌<◌, ◌==◌, Some, None, if◌then◌else◌}
 use Rattle.lp_tok.specs.declared.rest.Rest.{Rest}
 use Rattle.lp_tok.specs.declared.scan.Mark.{Mark}
 use Rattle.lp_tok.specs.declared.scan.Mark.TheVariants.{Opens, Closes, Other, End}

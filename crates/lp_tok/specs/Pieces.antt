@@ -1,17 +1,14 @@
 -- What stands at the front of a grammar file: a token, a gap, or an error. Each definition takes the
 -- characters from the token's start on, where an error may need that place, and those that are left.
-use Rattle.std.specs.Prelude.{ℕ, ◌-◌, ◌==◌, ◌||◌, List, [], ◌∷◌, length, take, Option, Some, None, if◌then◌else◌, option_and_then, is_some, codes, encode_utf8_all}
-use Rattle.std.specs.Str.{bytes_eq}
-use Rattle.std.specs.Char.{is_whitespace}
+use Rattle.std.specs.Prelude.{ℕ, ◌-◌, ◌==◌, List, [], ◌∷◌, length, take, Option, Some, None, if◌then◌else◌, option_and_then, encode_utf8_all}
 use Rattle.lp_tok.specs.declared.tok.ErrorCode.{ErrorCode}
-use Rattle.lp_tok.specs.declared.tok.ErrorCode.TheVariants.{UnrecognizedToken, UnterminatedEscape, UnterminatedStringLiteral, UnterminatedCharacterLiteral, UnterminatedCode, ExpectedStringLiteral, UnterminatedBlockComment}
-use Rattle.lp_tok.specs.declared.tok.Tok.TheVariants.{BangEquals, BangTilde, Bang, Colon, ColonColon, DotDot, Equals, EqualsEquals, EqualsGreaterThanLookahead, EqualsGreaterThanLookbehind, Hash, Lookahead, Lookbehind, MinusGreaterThan, TildeTilde, Underscore}
+use Rattle.lp_tok.specs.declared.tok.ErrorCode.TheVariants.{UnrecognizedToken, UnterminatedCharacterLiteral, UnterminatedCode, UnterminatedBlockComment}
+use Rattle.lp_tok.specs.declared.tok.Tok.TheVariants.{BangEquals, BangTilde, Bang, Colon, ColonColon, Equals, EqualsEquals, EqualsGreaterThanLookahead, EqualsGreaterThanLookbehind, Hash, Lookahead, Lookbehind}
 use Rattle.lp_tok.specs.declared.piece.Texted.{Texted}
 use Rattle.lp_tok.specs.declared.piece.Texted.TheVariants as text
-use Rattle.lp_tok.specs.Signs.{line_feed, bang, quote, hash, apostrophe, star, minus, dot, slash, colon, less, equals, greater, question, at_sign, letter_L, letter_R, left_bracket, backquote, letter_r, tilde}
-use Rattle.lp_tok.specs.Scans.{starts_word, after_word, from_char, from_unescaped, past, past_any, hashes, after_hashes, RawEnd, raw_end, after_comment, after_attribute, NoString}
+use Rattle.lp_tok.specs.Signs.{line_feed, bang, apostrophe, star, slash, colon, equals, greater, question, at_sign, letter_L, letter_R, left_bracket, tilde}
+use Rattle.lp_tok.specs.Scans.{starts_word, after_word, from_char, from_unescaped, past, past_any, after_comment, after_attribute, NoString}
 use Rattle.lp_tok.specs.Token.{Token, Symbol, Text}
-use Rattle.lp_tok.specs.Words.{symbol, keyword}
 
 -- a blank or a comment and what follows it; a token and what follows it; an attribute, what is left at its
 -- end, and what is read next; a token that ends with its cut, and where that begins; an error and what is

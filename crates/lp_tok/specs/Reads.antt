@@ -1,5 +1,5 @@
 -- What the tokenizer answers, and what is left to it.
-use Rattle.std.specs.Prelude.{◌≡◌, ℕ, ◌<◌, List, [], ◌∷◌, Ok, Err, Option, MatchOption, Result}
+use Rattle.std.specs.Prelude.{ℕ, ◌<◌, List, [], ◌∷◌, Ok, Err, Option, MatchOption, Result}
 use Rattle.std.specs.Str.{chars}
 use Rattle.lp_tok.specs.declared.rest.Rest.{Rest}
 use Rattle.lp_tok.specs.declared.tok.Tok.{Tok}

@@ -1,5 +1,5 @@
 -- The tokens of a text, as a relation between the text and their list.
-use Rattle.std.specs.Prelude.{◌≡◌, ℕ, ◌+◌, ◌-◌, List, [], ◌∷◌, length, Ok, Err, encode_utf8_all, Option, MatchOption}
+use Rattle.std.specs.Prelude.{◌≡◌, ℕ, ◌+◌, ◌-◌, List, [], ◌∷◌, length, Ok, Err, encode_utf8_all, Option, Some, None}
 use Rattle.std.specs.Str.{chars}
 use Rattle.lp_tok.specs.declared.tok.Error.{Error}
 use Rattle.lp_tok.specs.declared.tok.ErrorCode.{ErrorCode}
@@ -30,3 +30,16 @@ pub data AreTokens (end : ℕ) : List ℕ → List Item → Type 0 where
 -- the tokens of a text, whose places are moved up by `shift`
 abbrev pub AreTokensOf : List ℕ → ℕ → List Item → Type 0
 AreTokensOf text shift items = AreTokens (length text + shift) (chars text) items
+
+-- the error of a list of items, where there is one
+abbrev pub error_among : Option Error → List Item → Option Error
+error_among known [] = known
+error_among known (Ok token ∷ items) = error_among known items
+error_among known (Err e ∷ items) = error_among (Some e) items
+
+-- a text has exactly one list of tokens, and this is its error
+pub record HasOneList (text : List ℕ) (shift : ℕ) (error : Option Error) : Type 0 where
+  pub items : List Item
+  pub fit : AreTokensOf text shift items
+  pub no_other : (others : List Item) → AreTokensOf text shift others → others ≡ items
+  pub error_is : error ≡ error_among None items

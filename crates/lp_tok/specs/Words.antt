@@ -1,5 +1,5 @@
 -- Symbols of one character, and keywords.
-use Rattle.std.specs.Prelude.{ℕ, ◌==◌, ◌||◌, List, Option, Some, None, if◌then◌else◌, codes}
+use Rattle.std.specs.Prelude.{ℕ, ◌==◌, List, Option, Some, None, if◌then◌else◌, codes}
 use Rattle.std.specs.Str.{bytes_eq}
 use Rattle.lp_tok.specs.declared.tok.Tok.TheVariants.{Enum, Extern, Grammar, Match, Else, If, Mut, Pub, In, TypeWord, Where, For, Dyn, Ampersand, Comma, GreaterThan, LeftBrace, LeftBracket, LeftParen, LessThan, Plus, Question, RightBrace, RightBracket, RightParen, Semi, Star}
 use Rattle.lp_tok.specs.Signs.{ampersand, left_parenthesis, right_parenthesis, star, plus, comma, semicolon, less, greater, question, left_bracket, right_bracket, left_brace, right_brace}

@@ -16,4 +16,4 @@ mod word;
 pub use cut::{closed_code, closed_use, code_end};
 pub use escapes::{EscapeError, apply_string_escapes};
 pub use tok::{Error, ErrorCode, Spanned, Tok};
-pub use tokenizer::Tokenizer;
+pub use tokenizer::{Tokenizer, first_error};

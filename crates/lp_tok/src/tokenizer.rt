@@ -8,7 +8,7 @@ ghost use Rattle.lp_tok.specs.Left.{left, size, Follows};
 ghost use Rattle.lp_tok.specs.Token.{Item};
 ghost use Rattle.lp_tok.specs.Pieces.{Cut};
 ghost use Rattle.lp_tok.specs.WordPieces.{first_piece};
-ghost use Rattle.lp_tok.specs.Tokens.{place, AreTokensOf};
+ghost use Rattle.lp_tok.specs.Tokens.{place, AreTokensOf, HasOneList};
 ghost use Rattle.lp_tok.specs.Reads.{IsReadFrom, TokensLeft, GivesNext};
 
 use crate::cut::{CutEnd, cut};
@@ -120,4 +120,19 @@ pub(crate) fn place(end: usize, text: &str) -> usize
     ensures { result ≡ place end (chars text.now) }
 {
     end.saturating_sub(text.len())
+}
+
+/// The error of a text's tokens, if there is one. A text has exactly one list of tokens.
+pub fn first_error(text: &str, shift: usize) -> Option<Error>
+    requires { length text.now + shift < 2 ^ 64 }
+    ensures { HasOneList text.now shift result }
+{
+    let mut tokens = Tokenizer::new(text, shift);
+    let mut error = None;
+    while let Some(item) = tokens.next() {
+        if let Err(fault) = item {
+            error = Some(fault);
+        }
+    }
+    error
 }

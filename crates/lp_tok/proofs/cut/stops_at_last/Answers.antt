@@ -1,4 +1,3 @@
-use Rattle.std.proofs.Common.{◌∙◌, sym}
 use Rattle.std.proofs.lemmas.Bool.{false≢true}
 use Rattle.lp_tok.proofs.CutSteps.{last_left, no_last_left, stops_breaks, stops_unclosed}
 use Rattle.lp_tok.proofs.cut.stops_at_last.Goals as goal

@@ -1,6 +1,5 @@
 use Rattle.std.proofs.Common.{is_ok, ap, sym, ◌∙◌}
 use Rattle.std.proofs.ResultArms.{chosen}
-use Rattle.std.specs.Str.{chars}
 use Rattle.lp_tok.proofs.Lefts.{follows_follows, left_alone, alone_follows}
 use Rattle.lp_tok.proofs.Unescaped.{stand_plain, stand_escape, fails_at, stands_all}
 use Rattle.lp_tok.specs.Tokens.{place}

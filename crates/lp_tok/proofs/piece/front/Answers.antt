@@ -1,7 +1,5 @@
-use Rattle.std.proofs.Common.{◌++◌, sym, ap, subst, ◌∙◌, take, drop, take-append-drop}
-use Rattle.std.specs.Str.{chars}
+use Rattle.std.proofs.Common.{◌++◌, sym, ap, ◌∙◌, take, take-append-drop}
 use Rattle.std.proofs.lemmas.Str.{IsUtf8-take}
-use Rattle.lp_tok.specs.Pieces.{text_between}
 use Rattle.lp_tok.proofs.Lefts.{between_front}
 use Rattle.lp_tok.proofs.piece.front.Goals as goal
 

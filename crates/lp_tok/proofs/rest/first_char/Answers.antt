@@ -1,6 +1,4 @@
-use Rattle.std.proofs.Common.{◌++◌, ap}
 use Rattle.lp_tok.proofs.Lefts.{next_behind, done_both}
-use Rattle.std.specs.Str.{chars}
 use Rattle.lp_tok.proofs.rest.first_char.Goals as goal
 
 pub returns-in-Some-split_char-clause-first : goal.returns-in-Some-split_char-clause-first

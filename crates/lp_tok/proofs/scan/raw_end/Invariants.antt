@@ -1,4 +1,4 @@
-use Rattle.std.proofs.Common.{◌≡◌, ℕ, ◌+◌, ◌≤◌}
+use Rattle.std.proofs.Common.{◌≡◌, ◌≤◌}
 use Rattle.lp_tok.specs.Left.{left, size, Follows}
 use Rattle.lp_tok.specs.Scans.{raw_end}
 use Rattle.lp_tok.proofs.scan.raw_end.Given as goal

@@ -2,7 +2,7 @@ use Rattle.std.proofs.Common.{ap, sym, ◌∙◌}
 use Rattle.lp_tok.specs.declared.tokenizer.Reading.TheVariants.{Token, Broken, End}
 use Rattle.lp_tok.specs.Token.{Text}
 use Rattle.lp_tok.specs.Tokens.{tokens_none, tokens_fault}
-use Rattle.lp_tok.proofs.Lefts.{follows_follows, follows_itself}
+use Rattle.lp_tok.proofs.Lefts.{follows_itself}
 use Rattle.lp_tok.proofs.Readings.{gaps_more, read_past_gaps, whole_tokens, attribute_tokens}
 use Rattle.lp_tok.specs.declared.piece.Texted.TheVariants.{ShebangAttribute}
 use Rattle.std.proofs.Common.{refl}

@@ -1,4 +1,4 @@
-use Rattle.std.proofs.Common.{sym, subst, ◌∙◌, []}
+use Rattle.std.proofs.Common.{subst, []}
 use Rattle.lp_tok.specs.Tokens.{AreTokens, tokens_none}
 use Rattle.lp_tok.proofs.Lefts.{left_alone, alone_follows}
 use Rattle.lp_tok.proofs.Readings.{next_token, next_error, no_tokens, nothing_left}
