@@ -1,6 +1,7 @@
 //! Sources and sinks in memory, with reads and writes that fail as listed.
 
-ghost use Rattle.std.specs.Prelude.{◌≡◌, ℕ, ◌+◌, ◌-◌, ◌<◌, ◌≤◌, List, [], ◌++◌, length, take, drop, IfOk, OnErr, Option, Some, min};
+ghost use Rattle.std.specs.Prelude.{◌≡◌, ℕ, ◌+◌, ◌-◌, ◌<◌, ◌≤◌, List, [], ◌++◌, length, take, drop, IfOk, OnOk, OnErr, is_err, Option, Some, min, vec_len, vec_capacity};
+ghost use Rattle.lp_write.specs.Sinks.{Took, Refused};
 
 use crate::sinks::{Failed, Sink, rest};
 use crate::sources::Source;
@@ -75,15 +76,20 @@ fn copy_front(bytes: &[u8], most: usize, buf: &mut [u8]) -> usize
 #[derive(Drop)]
 pub struct MemorySink {
     bytes: Vec<u8>,
+    /// How many more bytes fit.
     room: usize,
     most: usize,
     failing: Vec<u64>,
     /// The number of the next write, up to the greatest u64.
     writes: u64,
     faults: u64,
+    ghost roomy: { vec_len bytes + room ≤ vec_capacity bytes },
+    ghost takes: { 0 < most },
 }
 
 impl MemorySink {
+    ghost use Rattle.lp_write.specs.Memory.{holding, fails};
+
     /// Takes its room at once, so that writes take no memory.
     pub fn new(
         alloc: Global,
@@ -92,6 +98,7 @@ impl MemorySink {
         failing: Vec<u64>,
     ) -> Result<MemorySink, AllocError>
         requires { 0 < most }
+        ensures { IfOk result (λ s. holding s ≡ record { bytes = []; room = room; most = most; failing = failing.items; writes = 0; faults = 0 }) }
     {
         Ok(MemorySink {
             bytes: Vec::with_capacity(alloc, room)?,
@@ -104,29 +111,56 @@ impl MemorySink {
     }
 
     /// The bytes that it holds.
-    pub fn into_bytes(self) -> Vec<u8> {
+    pub fn into_bytes(self) -> Vec<u8>
+        ensures { result.items ≡ (holding self).bytes }
+    {
         self.bytes
     }
 
-    fn is_listed(&self) -> bool {
-        self.failing.as_slice().contains(&self.writes)
+    /// Whether the next write, of this piece, fails.
+    fn fails(&self, piece: &[u8]) -> bool
+        ensures { result ≡ fails (holding self.now) piece.now }
+    {
+        self.failing.as_slice().contains(&self.writes) || (piece.len() > 0 && self.room == 0)
+    }
+}
+
+/// Appends within the capacity.
+fn put(bytes: &mut Vec<u8>, piece: &[u8])
+    requires { vec_len bytes.old + length piece.now ≤ vec_capacity bytes.old }
+    ensures items { bytes.new.items ≡ bytes.old.items ++ piece.now }
+    ensures len { vec_len bytes.new ≡ vec_len bytes.old + length piece.now }
+    ensures capacity { vec_capacity bytes.old ≤ vec_capacity bytes.new }
+{
+    if bytes.extend_from_slice(piece).is_err() {
+        unreachable!()
     }
 }
 
 impl Sink for MemorySink {
-    ghost told = { λ s. record { held = Some s.bytes.items; taken = Some (length s.bytes.items); faults = s.faults } };
+    ghost use Rattle.lp_write.specs.Memory.{holding, told_by, fails, takes, after_write, after_fault};
 
-    fn write(&mut self, piece: &[u8]) -> Result<usize, Failed> {
-        let fails = self.is_listed();
+    ghost told = { λ s. told_by (holding s) };
+
+    /// Takes the least of the piece, the most and the room left, in no memory.
+    fn write(&mut self, piece: &[u8]) -> Result<usize, Failed>
+        ensures within { IfOk result (λ n. n ≤ length piece.now) }
+        ensures moves { IfOk result (λ n. 0 < length piece.now → 0 < n) }
+        ensures took { IfOk result (λ n. Took (told_by (holding self.old)) (told_by (holding self.new)) (take n piece.now)) }
+        ensures refused { OnErr result (Refused (told_by (holding self.old)) (told_by (holding self.new))) }
+        ensures fails { is_err result ≡ fails (holding self.old) piece.now }
+        ensures takes { IfOk result (λ n. n ≡ takes (holding self.old) piece.now) }
+        ensures written { OnOk result (holding self.new ≡ after_write (holding self.old) piece.now) }
+        ensures fault { OnErr result (holding self.new ≡ after_fault (holding self.old)) }
+    {
+        let fails = self.fails(piece);
         self.writes = self.writes.saturating_add(1);
-        let n = piece.len().min(self.most).min(self.room);
-        if fails
-            || (n == 0 && !piece.is_empty())
-            || self.bytes.extend_from_slice(&piece[..n]).is_err()
-        {
+        if fails {
             self.faults = self.faults.saturating_add(1);
             return Err(Failed);
         }
+        let n = piece.len().min(self.most).min(self.room);
+        put(&mut self.bytes, &piece[..n]);
         self.room -= n;
         Ok(n)
     }
