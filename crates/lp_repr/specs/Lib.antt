@@ -6,3 +6,4 @@ pub mod ItemChoice
 pub mod FreeVariables
 pub mod Closure
 pub mod ValidTables
+pub mod Escapes

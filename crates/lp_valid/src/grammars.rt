@@ -1,5 +1,8 @@
 //! The check of a grammar.
 
+ghost use Rattle.std.specs.Prelude.{◌≤◌, IfErr};
+ghost use Rattle.lp_valid.specs.Refusals.{NamesGrammarRule};
+
 use crate::declared::Declared;
 use crate::{actions, spelling, terminals};
 use lp_repr::repr::Grammar;
@@ -15,6 +18,11 @@ pub enum GrammarFault {
 }
 
 impl From<AllocError> for GrammarFault {
+    ghost use Rattle.std.specs.Prelude.{◌≡◌};
+    ghost use Rattle.lp_valid.specs.declared.grammars.GrammarFault.TheVariants.{Memory};
+
+    ghost from_gives = { λ _ e. e ≡ Memory };
+
     fn from(_: AllocError) -> GrammarFault {
         GrammarFault::Memory
     }
@@ -42,7 +50,9 @@ impl From<AllocError> for GrammarFault {
 /// terminal stands nowhere but last, and it is the last terminal exactly where recovery is used
 /// (terminals, then one). 10 Terminals are distinct (terminals). A thing that stands twice fails at
 /// its second place.
-pub fn check_grammar(alloc: Global, grammar: &Grammar) -> Result<(), GrammarFault> {
+pub fn check_grammar(alloc: Global, grammar: &Grammar) -> Result<(), GrammarFault>
+    ensures { IfErr result NamesGrammarRule }
+{
     let declared = Declared::new(alloc, grammar)?;
     passes(1, declared.failing_start(alloc)?)?;
     passes(2, spelling::failing_name(grammar))?;
@@ -57,7 +67,11 @@ pub fn check_grammar(alloc: Global, grammar: &Grammar) -> Result<(), GrammarFaul
 }
 
 /// Refuses where the rule has a failing place.
-fn passes(rule: u8, failing: Option<usize>) -> Result<(), GrammarFault> {
+fn passes(rule: u8, failing: Option<usize>) -> Result<(), GrammarFault>
+    requires low { 1 ≤ rule }
+    requires high { rule ≤ 10 }
+    ensures { IfErr result NamesGrammarRule }
+{
     match failing {
         None => Ok(()),
         Some(place) => Err(GrammarFault::Rule { rule, place }),

@@ -1,5 +1,8 @@
 //! The check of tables.
 
+ghost use Rattle.std.specs.Prelude.{◌≡◌, ◌<◌, ◌≤◌, [], length, IfOk, IfSome, IfErr};
+ghost use Rattle.lp_valid.specs.Refusals.{NamesTableRule};
+
 use crate::item_sets::{Core, Rules, Seed, all_cores, has_productions, is_closure};
 use lp_repr::numbering::{Numbers, SymbolNumber, first_productions, rules};
 use lp_repr::repr::Grammar;
@@ -17,6 +20,11 @@ pub enum TableFault {
 }
 
 impl From<AllocError> for TableFault {
+    ghost use Rattle.std.specs.Prelude.{◌≡◌};
+    ghost use Rattle.lp_valid.specs.declared.tables.TableFault.TheVariants.{Memory};
+
+    ghost from_gives = { λ _ e. e ≡ Memory };
+
     fn from(_: AllocError) -> TableFault {
         TableFault::Memory
     }
@@ -48,7 +56,10 @@ pub fn check_tables(
     grammar: &Grammar,
     start: usize,
     states: &[Lr1State],
-) -> Result<(), TableFault> {
+) -> Result<(), TableFault>
+    ensures no_state { states.now ≡ [] → result ≡ Err (TableFault.Rule 1 0) }
+    ensures refusal { 0 < length states.now → IfErr result (NamesTableRule (length states.now)) }
+{
     if states.is_empty() {
         return Err(TableFault::Rule { rule: 1, state: 0 });
     }
@@ -102,7 +113,9 @@ fn failing_rule(
     tables: &Tables<'_>,
     start: usize,
     number: usize,
-) -> Result<Option<u8>, AllocError> {
+) -> Result<Option<u8>, AllocError>
+    ensures { IfOk result (λ o. IfSome o (λ rule. (2 ≤ rule) × (rule ≤ 8))) }
+{
     let (Some(state), Some(cores)) = (tables.states.get(number), tables.cores.get(number)) else {
         return Ok(None);
     };
