@@ -1,0 +1,17 @@
+//! The tree of a table-driven module, and what the back ends share.
+#![tactic(auto)]
+
+pub mod frame;
+pub mod headers;
+pub mod machine;
+pub mod pieces;
+pub mod reductions;
+pub mod shared;
+pub mod table_module;
+pub mod tables;
+pub mod tokens;
+
+pub use lp_parts::{
+    Comment, MachineParameters, filter_type_parameters_and_where_clauses, state_type,
+};
+pub use table_module::build_table_module;
