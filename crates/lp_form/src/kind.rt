@@ -1,5 +1,7 @@
 //! The printed forms and their numbers.
 
+ghost use Rattle.std.specs.Prelude.{◌≡◌};
+
 /// A printed form.
 #[derive(Clone, Copy, Debug, PartialEq, Eq)]
 pub enum FormKind {
@@ -53,8 +55,12 @@ pub enum FormKind {
 }
 
 impl FormKind {
+    ghost use Rattle.lp_form.specs.Forms.{number_of};
+
     /// The number of the form, from 1.
-    pub fn number(self) -> u8 {
+    pub fn number(self) -> u8
+        ensures { result ≡ number_of self }
+    {
         match self {
             FormKind::Program => 1,
             FormKind::Attribute => 2,

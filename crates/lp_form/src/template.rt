@@ -17,6 +17,8 @@ pub enum Kind {
     Escaped,
     /// A pattern with names in its holes.
     Filled,
+    /// Type arguments joined by `, `.
+    Generics,
     /// `0`, or a number above 1 and ` - 1`.
     Last,
     /// A string literal.

@@ -12,34 +12,61 @@ pub const PROGRAM: &[Line] = &[
     (Step::Optional(Class::TokenModule), NO_PARTS),
     (Step::Many(Class::Action), NO_PARTS),
     (Step::Empty, NO_PARTS),
-    (Step::Line(0), &[("#[allow(clippy::type_complexity, dead_code)]", Nothing)]),
+    (
+        Step::Line(0),
+        &[("#[allow(clippy::type_complexity, dead_code)]", Nothing)],
+    ),
     (Step::One(Class::ToTriple), NO_PARTS),
 ];
 
-pub const ATTRIBUTE: &[Line] = &[
-    (Step::Line(0), &[("", Hole(0))]),
-];
+pub const ATTRIBUTE: &[Line] = &[(Step::Line(0), &[("", Hole(0))])];
 
 pub const ATTRIBUTE_HOLES: &[Kind] = &[Kind::Attribute];
 
-pub const USE_LINE: &[Line] = &[
-    (Step::Use, NO_PARTS),
-];
+pub const USE_LINE: &[Line] = &[(Step::Use, NO_PARTS)];
 
 pub const STANDARD_USES: &[Line] = &[
-    (Step::Line(0), &[("#[allow(unused_extern_crates)]", Nothing)]),
-    (Step::Line(0), &[("extern crate lalrpop_util as ", Prefix), ("lalrpop_util;", Nothing)]),
+    (
+        Step::Line(0),
+        &[("#[allow(unused_extern_crates)]", Nothing)],
+    ),
+    (
+        Step::Line(0),
+        &[
+            ("extern crate lalrpop_util as ", Prefix),
+            ("lalrpop_util;", Nothing),
+        ],
+    ),
     (Step::Line(0), &[("#[allow(unused_imports)]", Nothing)]),
-    (Step::Line(0), &[("use self::", Prefix), ("lalrpop_util::state_machine as ", Prefix), ("state_machine;", Nothing)]),
-    (Step::Line(0), &[("#[allow(unused_extern_crates)]", Nothing)]),
+    (
+        Step::Line(0),
+        &[
+            ("use self::", Prefix),
+            ("lalrpop_util::state_machine as ", Prefix),
+            ("state_machine;", Nothing),
+        ],
+    ),
+    (
+        Step::Line(0),
+        &[("#[allow(unused_extern_crates)]", Nothing)],
+    ),
     (Step::Line(0), &[("extern crate alloc;", Nothing)]),
 ];
 
 pub const PARSE_MODULE: &[Line] = &[
     (Step::Empty, NO_PARTS),
     (Step::Line(0), &[("#[rustfmt::skip]", Nothing)]),
-    (Step::Line(0), &[("#[allow(explicit_outlives_requirements, non_snake_case, non_camel_case_types, unused_mut, unused_variables, unused_imports, unused_parens, clippy::needless_lifetimes, clippy::type_complexity, clippy::needless_return, clippy::too_many_arguments, clippy::match_single_binding, clippy::clone_on_copy, clippy::unit_arg)]", Nothing)]),
-    (Step::Line(0), &[("mod ", Prefix), ("parse", Hole(0)), (" {", Nothing)]),
+    (
+        Step::Line(0),
+        &[(
+            "#[allow(explicit_outlives_requirements, non_snake_case, non_camel_case_types, unused_mut, unused_variables, unused_imports, unused_parens, clippy::needless_lifetimes, clippy::type_complexity, clippy::needless_return, clippy::too_many_arguments, clippy::match_single_binding, clippy::clone_on_copy, clippy::unit_arg)]",
+            Nothing,
+        )],
+    ),
+    (
+        Step::Line(0),
+        &[("mod ", Prefix), ("parse", Hole(0)), (" {", Nothing)],
+    ),
     (Step::Empty, NO_PARTS),
     (Step::Many(Class::Use), NO_PARTS),
     (Step::One(Class::StandardUses), NO_PARTS),
@@ -50,17 +77,31 @@ pub const PARSE_MODULE: &[Line] = &[
 
 pub const PARSE_MODULE_HOLES: &[Kind] = &[Kind::Name];
 
-pub const TOKEN_USE_INTERNED: &[Line] = &[
-    (Step::Line(0), &[("use self::", Prefix), ("lalrpop_util::lexer::Token;", Nothing)]),
-];
+pub const TOKEN_USE_INTERNED: &[Line] = &[(
+    Step::Line(0),
+    &[
+        ("use self::", Prefix),
+        ("lalrpop_util::lexer::Token;", Nothing),
+    ],
+)];
 
-pub const TOKEN_USE_PLAIN: &[Line] = &[
-    (Step::Line(0), &[("use super::", Prefix), ("ToTriple;", Nothing)]),
-];
+pub const TOKEN_USE_PLAIN: &[Line] = &[(
+    Step::Line(0),
+    &[("use super::", Prefix), ("ToTriple;", Nothing)],
+)];
 
 pub const REEXPORT: &[Line] = &[
     (Step::Line(0), &[("#[allow(unused_imports)]", Nothing)]),
-    (Step::Line(0), &[("", Hole(0)), ("use self::", Prefix), ("parse", Hole(1)), ("::", Hole(2)), ("Parser;", Nothing)]),
+    (
+        Step::Line(0),
+        &[
+            ("", Hole(0)),
+            ("use self::", Prefix),
+            ("parse", Hole(1)),
+            ("::", Hole(2)),
+            ("Parser;", Nothing),
+        ],
+    ),
 ];
 
 pub const REEXPORT_HOLES: &[Kind] = &[Kind::Visibility, Kind::Name, Kind::Name];
@@ -103,133 +144,408 @@ pub const ASCENT_ITEMS: &[Line] = &[
 
 pub const TOKEN_MODULE: &[Line] = &[
     (Step::Line(0), &[("#[rustfmt::skip]", Nothing)]),
-    (Step::Line(0), &[("mod ", Prefix), ("intern_token {", Nothing)]),
+    (
+        Step::Line(0),
+        &[("mod ", Prefix), ("intern_token {", Nothing)],
+    ),
     (Step::Line(0), &[("#![allow(unused_imports)]", Nothing)]),
     (Step::Many(Class::Use), NO_PARTS),
     (Step::One(Class::StandardUses), NO_PARTS),
-    (Step::Line(0), &[("pub fn new_builder() -> ", Prefix), ("lalrpop_util::lexer::MatcherBuilder {", Nothing)]),
-    (Step::Line(0), &[("let ", Prefix), ("strs: &[(&str, bool)] = &[", Nothing)]),
+    (
+        Step::Line(0),
+        &[
+            ("pub fn new_builder() -> ", Prefix),
+            ("lalrpop_util::lexer::MatcherBuilder {", Nothing),
+        ],
+    ),
+    (
+        Step::Line(0),
+        &[("let ", Prefix), ("strs: &[(&str, bool)] = &[", Nothing)],
+    ),
     (Step::Many(Class::InternRow), NO_PARTS),
     (Step::Optional(Class::WhitespaceRow), NO_PARTS),
     (Step::Line(0), &[("];", Nothing)]),
-    (Step::Line(0), &[("", Prefix), ("lalrpop_util::lexer::MatcherBuilder::new(", Prefix), ("strs.iter().copied()).unwrap()", Nothing)]),
+    (
+        Step::Line(0),
+        &[
+            ("", Prefix),
+            ("lalrpop_util::lexer::MatcherBuilder::new(", Prefix),
+            ("strs.iter().copied()).unwrap()", Nothing),
+        ],
+    ),
     (Step::Line(0), &[("}", Nothing)]),
     (Step::Line(0), &[("}", Nothing)]),
-    (Step::Line(0), &[("pub(crate) use self::", Prefix), ("lalrpop_util::lexer::Token;", Nothing)]),
+    (
+        Step::Line(0),
+        &[
+            ("pub(crate) use self::", Prefix),
+            ("lalrpop_util::lexer::Token;", Nothing),
+        ],
+    ),
 ];
 
-pub const INTERN_SKIP: &[Line] = &[
-    (Step::Line(0), &[("(", Hole(0)), (", true),", Nothing)]),
-];
+pub const INTERN_SKIP: &[Line] = &[(Step::Line(0), &[("(", Hole(0)), (", true),", Nothing)])];
 
 pub const INTERN_SKIP_HOLES: &[Kind] = &[Kind::Literal];
 
-pub const INTERN_KEEP: &[Line] = &[
-    (Step::Line(0), &[("(", Hole(0)), (", false),", Nothing)]),
-];
+pub const INTERN_KEEP: &[Line] = &[(Step::Line(0), &[("(", Hole(0)), (", false),", Nothing)])];
 
 pub const INTERN_KEEP_HOLES: &[Kind] = &[Kind::Literal];
 
-pub const WHITESPACE_ROW: &[Line] = &[
-    (Step::Line(0), &[("(r\"\\s+\", true),", Nothing)]),
-];
+pub const WHITESPACE_ROW: &[Line] = &[(Step::Line(0), &[("(r\"\\s+\", true),", Nothing)])];
 
 pub const TO_TRIPLE_LOCATED_WHERE: &[Line] = &[
-    (Step::Line(0), &[("", Hole(0)), ("trait ", Prefix), ("ToTriple<", Hole(1)), (">", Nothing)]),
+    (
+        Step::Line(0),
+        &[
+            ("", Hole(0)),
+            ("trait ", Prefix),
+            ("ToTriple<", Hole(1)),
+            (">", Nothing),
+        ],
+    ),
     (Step::Line(0), &[("where ", Hole(2))]),
     (Step::Line(0), &[("{", Nothing)]),
-    (Step::Line(0), &[("fn to_triple(self) -> Result<(", Hole(3)), ("), ", Prefix), ("lalrpop_util::ParseError<", Hole(4)), (">>;", Nothing)]),
+    (
+        Step::Line(0),
+        &[
+            ("fn to_triple(self) -> Result<(", Hole(3)),
+            ("), ", Prefix),
+            ("lalrpop_util::ParseError<", Hole(4)),
+            (">>;", Nothing),
+        ],
+    ),
     (Step::Line(0), &[("}", Nothing)]),
     (Step::Empty, NO_PARTS),
-    (Step::Line(0), &[("impl<", Hole(1)), ("> ", Prefix), ("ToTriple<", Hole(1)), ("> for (", Hole(5)), (")", Nothing)]),
+    (
+        Step::Line(0),
+        &[
+            ("impl<", Hole(1)),
+            ("> ", Prefix),
+            ("ToTriple<", Hole(1)),
+            ("> for (", Hole(5)),
+            (")", Nothing),
+        ],
+    ),
     (Step::Line(0), &[("where ", Hole(2))]),
     (Step::Line(0), &[("{", Nothing)]),
-    (Step::Line(0), &[("fn to_triple(self) -> Result<(", Hole(3)), ("), ", Prefix), ("lalrpop_util::ParseError<", Hole(4)), (">> {", Nothing)]),
+    (
+        Step::Line(0),
+        &[
+            ("fn to_triple(self) -> Result<(", Hole(3)),
+            ("), ", Prefix),
+            ("lalrpop_util::ParseError<", Hole(4)),
+            (">> {", Nothing),
+        ],
+    ),
     (Step::Line(0), &[("Ok(self)", Nothing)]),
     (Step::Line(0), &[("}", Nothing)]),
     (Step::Line(0), &[("}", Nothing)]),
-    (Step::Line(0), &[("impl<", Hole(1)), ("> ", Prefix), ("ToTriple<", Hole(1)), ("> for Result<(", Hole(5)), ("), ", Hole(6)), (">", Nothing)]),
+    (
+        Step::Line(0),
+        &[
+            ("impl<", Hole(1)),
+            ("> ", Prefix),
+            ("ToTriple<", Hole(1)),
+            ("> for Result<(", Hole(5)),
+            ("), ", Hole(6)),
+            (">", Nothing),
+        ],
+    ),
     (Step::Line(0), &[("where ", Hole(2))]),
     (Step::Line(0), &[("{", Nothing)]),
-    (Step::Line(0), &[("fn to_triple(self) -> Result<(", Hole(3)), ("), ", Prefix), ("lalrpop_util::ParseError<", Hole(4)), (">> {", Nothing)]),
-    (Step::Line(0), &[("self.map_err(|error| ", Prefix), ("lalrpop_util::ParseError::User { error })", Nothing)]),
+    (
+        Step::Line(0),
+        &[
+            ("fn to_triple(self) -> Result<(", Hole(3)),
+            ("), ", Prefix),
+            ("lalrpop_util::ParseError<", Hole(4)),
+            (">> {", Nothing),
+        ],
+    ),
+    (
+        Step::Line(0),
+        &[
+            ("self.map_err(|error| ", Prefix),
+            ("lalrpop_util::ParseError::User { error })", Nothing),
+        ],
+    ),
     (Step::Line(0), &[("}", Nothing)]),
     (Step::Line(0), &[("}", Nothing)]),
 ];
 
-pub const TO_TRIPLE_LOCATED_WHERE_HOLES: &[Kind] = &[Kind::Visibility, Kind::Text, Kind::Text, Kind::Text, Kind::Text, Kind::Text, Kind::Text];
+pub const TO_TRIPLE_LOCATED_WHERE_HOLES: &[Kind] = &[
+    Kind::Visibility,
+    Kind::Text,
+    Kind::Text,
+    Kind::Text,
+    Kind::Text,
+    Kind::Text,
+    Kind::Text,
+];
 
 pub const TO_TRIPLE_LOCATED: &[Line] = &[
-    (Step::Line(0), &[("", Hole(0)), ("trait ", Prefix), ("ToTriple<", Hole(1)), (">", Nothing)]),
+    (
+        Step::Line(0),
+        &[
+            ("", Hole(0)),
+            ("trait ", Prefix),
+            ("ToTriple<", Hole(1)),
+            (">", Nothing),
+        ],
+    ),
     (Step::Line(0), &[("{", Nothing)]),
-    (Step::Line(0), &[("fn to_triple(self) -> Result<(", Hole(2)), ("), ", Prefix), ("lalrpop_util::ParseError<", Hole(3)), (">>;", Nothing)]),
+    (
+        Step::Line(0),
+        &[
+            ("fn to_triple(self) -> Result<(", Hole(2)),
+            ("), ", Prefix),
+            ("lalrpop_util::ParseError<", Hole(3)),
+            (">>;", Nothing),
+        ],
+    ),
     (Step::Line(0), &[("}", Nothing)]),
     (Step::Empty, NO_PARTS),
-    (Step::Line(0), &[("impl<", Hole(1)), ("> ", Prefix), ("ToTriple<", Hole(1)), ("> for (", Hole(4)), (")", Nothing)]),
+    (
+        Step::Line(0),
+        &[
+            ("impl<", Hole(1)),
+            ("> ", Prefix),
+            ("ToTriple<", Hole(1)),
+            ("> for (", Hole(4)),
+            (")", Nothing),
+        ],
+    ),
     (Step::Line(0), &[("{", Nothing)]),
-    (Step::Line(0), &[("fn to_triple(self) -> Result<(", Hole(2)), ("), ", Prefix), ("lalrpop_util::ParseError<", Hole(3)), (">> {", Nothing)]),
+    (
+        Step::Line(0),
+        &[
+            ("fn to_triple(self) -> Result<(", Hole(2)),
+            ("), ", Prefix),
+            ("lalrpop_util::ParseError<", Hole(3)),
+            (">> {", Nothing),
+        ],
+    ),
     (Step::Line(0), &[("Ok(self)", Nothing)]),
     (Step::Line(0), &[("}", Nothing)]),
     (Step::Line(0), &[("}", Nothing)]),
-    (Step::Line(0), &[("impl<", Hole(1)), ("> ", Prefix), ("ToTriple<", Hole(1)), ("> for Result<(", Hole(4)), ("), ", Hole(5)), (">", Nothing)]),
+    (
+        Step::Line(0),
+        &[
+            ("impl<", Hole(1)),
+            ("> ", Prefix),
+            ("ToTriple<", Hole(1)),
+            ("> for Result<(", Hole(4)),
+            ("), ", Hole(5)),
+            (">", Nothing),
+        ],
+    ),
     (Step::Line(0), &[("{", Nothing)]),
-    (Step::Line(0), &[("fn to_triple(self) -> Result<(", Hole(2)), ("), ", Prefix), ("lalrpop_util::ParseError<", Hole(3)), (">> {", Nothing)]),
-    (Step::Line(0), &[("self.map_err(|error| ", Prefix), ("lalrpop_util::ParseError::User { error })", Nothing)]),
+    (
+        Step::Line(0),
+        &[
+            ("fn to_triple(self) -> Result<(", Hole(2)),
+            ("), ", Prefix),
+            ("lalrpop_util::ParseError<", Hole(3)),
+            (">> {", Nothing),
+        ],
+    ),
+    (
+        Step::Line(0),
+        &[
+            ("self.map_err(|error| ", Prefix),
+            ("lalrpop_util::ParseError::User { error })", Nothing),
+        ],
+    ),
     (Step::Line(0), &[("}", Nothing)]),
     (Step::Line(0), &[("}", Nothing)]),
 ];
 
-pub const TO_TRIPLE_LOCATED_HOLES: &[Kind] = &[Kind::Visibility, Kind::Text, Kind::Text, Kind::Text, Kind::Text, Kind::Text];
+pub const TO_TRIPLE_LOCATED_HOLES: &[Kind] = &[
+    Kind::Visibility,
+    Kind::Text,
+    Kind::Text,
+    Kind::Text,
+    Kind::Text,
+    Kind::Text,
+];
 
 pub const TO_TRIPLE_PLAIN_WHERE: &[Line] = &[
-    (Step::Line(0), &[("", Hole(0)), ("trait ", Prefix), ("ToTriple<", Hole(1)), (">", Nothing)]),
+    (
+        Step::Line(0),
+        &[
+            ("", Hole(0)),
+            ("trait ", Prefix),
+            ("ToTriple<", Hole(1)),
+            (">", Nothing),
+        ],
+    ),
     (Step::Line(0), &[("where ", Hole(2))]),
     (Step::Line(0), &[("{", Nothing)]),
-    (Step::Line(0), &[("fn to_triple(self) -> Result<(", Hole(3)), ("), ", Prefix), ("lalrpop_util::ParseError<", Hole(4)), (">>;", Nothing)]),
+    (
+        Step::Line(0),
+        &[
+            ("fn to_triple(self) -> Result<(", Hole(3)),
+            ("), ", Prefix),
+            ("lalrpop_util::ParseError<", Hole(4)),
+            (">>;", Nothing),
+        ],
+    ),
     (Step::Line(0), &[("}", Nothing)]),
     (Step::Empty, NO_PARTS),
-    (Step::Line(0), &[("impl<", Hole(1)), ("> ", Prefix), ("ToTriple<", Hole(1)), ("> for ", Hole(5))]),
+    (
+        Step::Line(0),
+        &[
+            ("impl<", Hole(1)),
+            ("> ", Prefix),
+            ("ToTriple<", Hole(1)),
+            ("> for ", Hole(5)),
+        ],
+    ),
     (Step::Line(0), &[("where ", Hole(2))]),
     (Step::Line(0), &[("{", Nothing)]),
-    (Step::Line(0), &[("fn to_triple(self) -> Result<(", Hole(3)), ("), ", Prefix), ("lalrpop_util::ParseError<", Hole(4)), (">> {", Nothing)]),
+    (
+        Step::Line(0),
+        &[
+            ("fn to_triple(self) -> Result<(", Hole(3)),
+            ("), ", Prefix),
+            ("lalrpop_util::ParseError<", Hole(4)),
+            (">> {", Nothing),
+        ],
+    ),
     (Step::Line(0), &[("Ok(((), self, ()))", Nothing)]),
     (Step::Line(0), &[("}", Nothing)]),
     (Step::Line(0), &[("}", Nothing)]),
-    (Step::Line(0), &[("impl<", Hole(1)), ("> ", Prefix), ("ToTriple<", Hole(1)), ("> for Result<", Hole(5)), (",", Hole(6)), (">", Nothing)]),
+    (
+        Step::Line(0),
+        &[
+            ("impl<", Hole(1)),
+            ("> ", Prefix),
+            ("ToTriple<", Hole(1)),
+            ("> for Result<", Hole(5)),
+            (",", Hole(6)),
+            (">", Nothing),
+        ],
+    ),
     (Step::Line(0), &[("where ", Hole(2))]),
     (Step::Line(0), &[("{", Nothing)]),
-    (Step::Line(0), &[("fn to_triple(self) -> Result<(", Hole(3)), ("), ", Prefix), ("lalrpop_util::ParseError<", Hole(4)), (">> {", Nothing)]),
+    (
+        Step::Line(0),
+        &[
+            ("fn to_triple(self) -> Result<(", Hole(3)),
+            ("), ", Prefix),
+            ("lalrpop_util::ParseError<", Hole(4)),
+            (">> {", Nothing),
+        ],
+    ),
     (Step::Line(0), &[("match self {", Nothing)]),
     (Step::Line(0), &[("Ok(v) => Ok(((), v, ())),", Nothing)]),
-    (Step::Line(0), &[("Err(error) => Err(", Prefix), ("lalrpop_util::ParseError::User { error }),", Nothing)]),
+    (
+        Step::Line(0),
+        &[
+            ("Err(error) => Err(", Prefix),
+            ("lalrpop_util::ParseError::User { error }),", Nothing),
+        ],
+    ),
     (Step::Line(0), &[("}", Nothing)]),
     (Step::Line(0), &[("}", Nothing)]),
     (Step::Line(0), &[("}", Nothing)]),
 ];
 
-pub const TO_TRIPLE_PLAIN_WHERE_HOLES: &[Kind] = &[Kind::Visibility, Kind::Text, Kind::Text, Kind::Text, Kind::Text, Kind::Text, Kind::Text];
+pub const TO_TRIPLE_PLAIN_WHERE_HOLES: &[Kind] = &[
+    Kind::Visibility,
+    Kind::Text,
+    Kind::Text,
+    Kind::Text,
+    Kind::Text,
+    Kind::Text,
+    Kind::Text,
+];
 
 pub const TO_TRIPLE_PLAIN: &[Line] = &[
-    (Step::Line(0), &[("", Hole(0)), ("trait ", Prefix), ("ToTriple<", Hole(1)), (">", Nothing)]),
+    (
+        Step::Line(0),
+        &[
+            ("", Hole(0)),
+            ("trait ", Prefix),
+            ("ToTriple<", Hole(1)),
+            (">", Nothing),
+        ],
+    ),
     (Step::Line(0), &[("{", Nothing)]),
-    (Step::Line(0), &[("fn to_triple(self) -> Result<(", Hole(2)), ("), ", Prefix), ("lalrpop_util::ParseError<", Hole(3)), (">>;", Nothing)]),
+    (
+        Step::Line(0),
+        &[
+            ("fn to_triple(self) -> Result<(", Hole(2)),
+            ("), ", Prefix),
+            ("lalrpop_util::ParseError<", Hole(3)),
+            (">>;", Nothing),
+        ],
+    ),
     (Step::Line(0), &[("}", Nothing)]),
     (Step::Empty, NO_PARTS),
-    (Step::Line(0), &[("impl<", Hole(1)), ("> ", Prefix), ("ToTriple<", Hole(1)), ("> for ", Hole(4))]),
+    (
+        Step::Line(0),
+        &[
+            ("impl<", Hole(1)),
+            ("> ", Prefix),
+            ("ToTriple<", Hole(1)),
+            ("> for ", Hole(4)),
+        ],
+    ),
     (Step::Line(0), &[("{", Nothing)]),
-    (Step::Line(0), &[("fn to_triple(self) -> Result<(", Hole(2)), ("), ", Prefix), ("lalrpop_util::ParseError<", Hole(3)), (">> {", Nothing)]),
+    (
+        Step::Line(0),
+        &[
+            ("fn to_triple(self) -> Result<(", Hole(2)),
+            ("), ", Prefix),
+            ("lalrpop_util::ParseError<", Hole(3)),
+            (">> {", Nothing),
+        ],
+    ),
     (Step::Line(0), &[("Ok(((), self, ()))", Nothing)]),
     (Step::Line(0), &[("}", Nothing)]),
     (Step::Line(0), &[("}", Nothing)]),
-    (Step::Line(0), &[("impl<", Hole(1)), ("> ", Prefix), ("ToTriple<", Hole(1)), ("> for Result<", Hole(4)), (",", Hole(5)), (">", Nothing)]),
+    (
+        Step::Line(0),
+        &[
+            ("impl<", Hole(1)),
+            ("> ", Prefix),
+            ("ToTriple<", Hole(1)),
+            ("> for Result<", Hole(4)),
+            (",", Hole(5)),
+            (">", Nothing),
+        ],
+    ),
     (Step::Line(0), &[("{", Nothing)]),
-    (Step::Line(0), &[("fn to_triple(self) -> Result<(", Hole(2)), ("), ", Prefix), ("lalrpop_util::ParseError<", Hole(3)), (">> {", Nothing)]),
+    (
+        Step::Line(0),
+        &[
+            ("fn to_triple(self) -> Result<(", Hole(2)),
+            ("), ", Prefix),
+            ("lalrpop_util::ParseError<", Hole(3)),
+            (">> {", Nothing),
+        ],
+    ),
     (Step::Line(0), &[("match self {", Nothing)]),
     (Step::Line(0), &[("Ok(v) => Ok(((), v, ())),", Nothing)]),
-    (Step::Line(0), &[("Err(error) => Err(", Prefix), ("lalrpop_util::ParseError::User { error }),", Nothing)]),
+    (
+        Step::Line(0),
+        &[
+            ("Err(error) => Err(", Prefix),
+            ("lalrpop_util::ParseError::User { error }),", Nothing),
+        ],
+    ),
     (Step::Line(0), &[("}", Nothing)]),
     (Step::Line(0), &[("}", Nothing)]),
     (Step::Line(0), &[("}", Nothing)]),
 ];
 
-pub const TO_TRIPLE_PLAIN_HOLES: &[Kind] = &[Kind::Visibility, Kind::Text, Kind::Text, Kind::Text, Kind::Text, Kind::Text];
+pub const TO_TRIPLE_PLAIN_HOLES: &[Kind] = &[
+    Kind::Visibility,
+    Kind::Text,
+    Kind::Text,
+    Kind::Text,
+    Kind::Text,
+    Kind::Text,
+];

@@ -7,22 +7,85 @@ use crate::template::{Kind, Line, NO_PARTS, Step};
 pub const REDUCE: &[Line] = &[
     (Step::One(Class::HeaderReduce), NO_PARTS),
     (Step::Line(0), &[("{", Nothing)]),
-    (Step::Line(0), &[("let (", Prefix), ("pop_states, ", Prefix), ("nonterminal) = match ", Prefix), ("action {", Nothing)]),
+    (
+        Step::Line(0),
+        &[
+            ("let (", Prefix),
+            ("pop_states, ", Prefix),
+            ("nonterminal) = match ", Prefix),
+            ("action {", Nothing),
+        ],
+    ),
     (Step::Many(Class::ReduceRow), NO_PARTS),
-    (Step::Line(0), &[("_ => panic!(\"invalid action code {", Prefix), ("action}\")", Nothing)]),
+    (
+        Step::Line(0),
+        &[
+            ("_ => panic!(\"invalid action code {", Prefix),
+            ("action}\")", Nothing),
+        ],
+    ),
     (Step::Line(0), &[("};", Nothing)]),
-    (Step::Line(0), &[("let ", Prefix), ("states_len = ", Prefix), ("states.len();", Nothing)]),
-    (Step::Line(0), &[("", Prefix), ("states.truncate(", Prefix), ("states_len - ", Prefix), ("pop_states);", Nothing)]),
-    (Step::Line(0), &[("let ", Prefix), ("state = *", Prefix), ("states.last().unwrap();", Nothing)]),
-    (Step::Line(0), &[("let ", Prefix), ("next_state = ", Prefix), ("goto(", Prefix), ("state, ", Prefix), ("nonterminal);", Nothing)]),
-    (Step::Line(0), &[("", Prefix), ("states.push(", Prefix), ("next_state);", Nothing)]),
+    (
+        Step::Line(0),
+        &[
+            ("let ", Prefix),
+            ("states_len = ", Prefix),
+            ("states.len();", Nothing),
+        ],
+    ),
+    (
+        Step::Line(0),
+        &[
+            ("", Prefix),
+            ("states.truncate(", Prefix),
+            ("states_len - ", Prefix),
+            ("pop_states);", Nothing),
+        ],
+    ),
+    (
+        Step::Line(0),
+        &[
+            ("let ", Prefix),
+            ("state = *", Prefix),
+            ("states.last().unwrap();", Nothing),
+        ],
+    ),
+    (
+        Step::Line(0),
+        &[
+            ("let ", Prefix),
+            ("next_state = ", Prefix),
+            ("goto(", Prefix),
+            ("state, ", Prefix),
+            ("nonterminal);", Nothing),
+        ],
+    ),
+    (
+        Step::Line(0),
+        &[
+            ("", Prefix),
+            ("states.push(", Prefix),
+            ("next_state);", Nothing),
+        ],
+    ),
     (Step::Line(0), &[("None", Nothing)]),
     (Step::Line(0), &[("}", Nothing)]),
 ];
 
 pub const REDUCE_CALL_ARM: &[Line] = &[
     (Step::Line(0), &[("", Hole(0)), (" => {", Nothing)]),
-    (Step::Line(0), &[("", Prefix), ("reduce", Hole(0)), ("(", Hole(1)), ("", Prefix), ("lookahead_start, ", Prefix), ("symbols, ", Hole(2)), (")", Nothing)]),
+    (
+        Step::Line(0),
+        &[
+            ("", Prefix),
+            ("reduce", Hole(0)),
+            ("(", Hole(1)),
+            ("", Prefix),
+            ("lookahead_start, ", Prefix),
+            ("symbols, ", Hole(2)),
+            (")", Nothing),
+        ],
+    ),
     (Step::Line(0), &[("}", Nothing)]),
 ];
 
@@ -45,83 +108,203 @@ pub const REDUCE_BODY: &[Line] = &[
     (Step::One(Class::OutcomeLines), NO_PARTS),
 ];
 
-pub const ASSERT_LINE: &[Line] = &[
-    (Step::Line(0), &[("assert!(", Prefix), ("symbols.len() >= ", Hole(0)), (");", Nothing)]),
-];
+pub const ASSERT_LINE: &[Line] = &[(
+    Step::Line(0),
+    &[
+        ("assert!(", Prefix),
+        ("symbols.len() >= ", Hole(0)),
+        (");", Nothing),
+    ],
+)];
 
 pub const ASSERT_LINE_HOLES: &[Kind] = &[Kind::Number];
 
-pub const POP_LINE: &[Line] = &[
-    (Step::Line(0), &[("let ", Prefix), ("sym", Hole(0)), (" = ", Prefix), ("pop_", Hole(1)), ("(", Prefix), ("symbols);", Nothing)]),
-];
+pub const POP_LINE: &[Line] = &[(
+    Step::Line(0),
+    &[
+        ("let ", Prefix),
+        ("sym", Hole(0)),
+        (" = ", Prefix),
+        ("pop_", Hole(1)),
+        ("(", Prefix),
+        ("symbols);", Nothing),
+    ],
+)];
 
 pub const POP_LINE_HOLES: &[Kind] = &[Kind::Number, Kind::Name];
 
 pub const SPAN_POPPED: &[Line] = &[
-    (Step::Line(0), &[("let ", Prefix), ("start = ", Prefix), ("sym", Hole(0)), (".0.clone();", Nothing)]),
-    (Step::Line(0), &[("let ", Prefix), ("end = ", Prefix), ("sym", Hole(1)), (".2.clone();", Nothing)]),
+    (
+        Step::Line(0),
+        &[
+            ("let ", Prefix),
+            ("start = ", Prefix),
+            ("sym", Hole(0)),
+            (".0.clone();", Nothing),
+        ],
+    ),
+    (
+        Step::Line(0),
+        &[
+            ("let ", Prefix),
+            ("end = ", Prefix),
+            ("sym", Hole(1)),
+            (".2.clone();", Nothing),
+        ],
+    ),
 ];
 
 pub const SPAN_POPPED_HOLES: &[Kind] = &[Kind::Number, Kind::Number];
 
 pub const SPAN_EMPTY: &[Line] = &[
-    (Step::Line(0), &[("let ", Prefix), ("start = ", Prefix), ("lookahead_start.cloned().or_else(|| ", Prefix), ("symbols.last().map(|s| s.2)).unwrap_or_default();", Nothing)]),
-    (Step::Line(0), &[("let ", Prefix), ("end = ", Prefix), ("start;", Nothing)]),
+    (
+        Step::Line(0),
+        &[
+            ("let ", Prefix),
+            ("start = ", Prefix),
+            ("lookahead_start.cloned().or_else(|| ", Prefix),
+            ("symbols.last().map(|s| s.2)).unwrap_or_default();", Nothing),
+        ],
+    ),
+    (
+        Step::Line(0),
+        &[("let ", Prefix), ("end = ", Prefix), ("start;", Nothing)],
+    ),
 ];
 
-pub const CALL_PLAIN: &[Line] = &[
-    (Step::Line(0), &[("let ", Prefix), ("nt = super::", Prefix), ("action", Hole(0)), ("::<", Hole(1)), (">(", Hole(2)), (");", Nothing)]),
-];
+pub const CALL_PLAIN: &[Line] = &[(
+    Step::Line(0),
+    &[
+        ("let ", Prefix),
+        ("nt = super::", Prefix),
+        ("action", Hole(0)),
+        ("::<", Hole(1)),
+        (">(", Hole(2)),
+        (");", Nothing),
+    ],
+)];
 
-pub const CALL_PLAIN_HOLES: &[Kind] = &[Kind::Number, Kind::Text, Kind::Arguments];
+pub const CALL_PLAIN_HOLES: &[Kind] = &[Kind::Number, Kind::Generics, Kind::Arguments];
 
 pub const CALL_FALLIBLE: &[Line] = &[
-    (Step::Line(0), &[("let ", Prefix), ("nt = match super::", Prefix), ("action", Hole(0)), ("::<", Hole(1)), (">(", Hole(2)), (") {", Nothing)]),
+    (
+        Step::Line(0),
+        &[
+            ("let ", Prefix),
+            ("nt = match super::", Prefix),
+            ("action", Hole(0)),
+            ("::<", Hole(1)),
+            (">(", Hole(2)),
+            (") {", Nothing),
+        ],
+    ),
     (Step::Line(0), &[("Ok(v) => v,", Nothing)]),
-    (Step::Line(0), &[("Err(e) => return Some(Err(e)),", Nothing)]),
+    (
+        Step::Line(0),
+        &[("Err(e) => return Some(Err(e)),", Nothing)],
+    ),
     (Step::Line(0), &[("};", Nothing)]),
 ];
 
-pub const CALL_FALLIBLE_HOLES: &[Kind] = &[Kind::Number, Kind::Text, Kind::Arguments];
+pub const CALL_FALLIBLE_HOLES: &[Kind] = &[Kind::Number, Kind::Generics, Kind::Arguments];
 
-pub const OUTCOME_START: &[Line] = &[
-    (Step::Line(0), &[("return Some(Ok(", Prefix), ("nt));", Nothing)]),
-];
+pub const OUTCOME_START: &[Line] = &[(
+    Step::Line(0),
+    &[("return Some(Ok(", Prefix), ("nt));", Nothing)],
+)];
 
 pub const OUTCOME_PUSH: &[Line] = &[
-    (Step::Line(0), &[("", Prefix), ("symbols.push((", Prefix), ("start, ", Prefix), ("Symbol::", Hole(0)), ("(", Prefix), ("nt), ", Prefix), ("end));", Nothing)]),
-    (Step::Line(0), &[("(", Hole(1)), (", ", Hole(2)), (")", Nothing)]),
+    (
+        Step::Line(0),
+        &[
+            ("", Prefix),
+            ("symbols.push((", Prefix),
+            ("start, ", Prefix),
+            ("Symbol::", Hole(0)),
+            ("(", Prefix),
+            ("nt), ", Prefix),
+            ("end));", Nothing),
+        ],
+    ),
+    (
+        Step::Line(0),
+        &[("(", Hole(1)), (", ", Hole(2)), (")", Nothing)],
+    ),
 ];
 
 pub const OUTCOME_PUSH_HOLES: &[Kind] = &[Kind::Name, Kind::Number, Kind::Number];
 
 pub const MISMATCH: &[Line] = &[
     (Step::Line(0), &[("#[inline(never)]", Nothing)]),
-    (Step::Line(0), &[("fn ", Prefix), ("symbol_type_mismatch() -> ! {", Nothing)]),
-    (Step::Line(0), &[("panic!(\"symbol type mismatch\")", Nothing)]),
+    (
+        Step::Line(0),
+        &[("fn ", Prefix), ("symbol_type_mismatch() -> ! {", Nothing)],
+    ),
+    (
+        Step::Line(0),
+        &[("panic!(\"symbol type mismatch\")", Nothing)],
+    ),
     (Step::Line(0), &[("}", Nothing)]),
 ];
 
 pub const POP: &[Line] = &[
-    (Step::Line(0), &[("fn ", Prefix), ("pop_", Hole(0)), ("<", Nothing)]),
+    (
+        Step::Line(0),
+        &[("fn ", Prefix), ("pop_", Hole(0)), ("<", Nothing)],
+    ),
     (Step::Many(Class::PopRow), NO_PARTS),
     (Step::Line(0), &[(">(", Nothing)]),
-    (Step::Line(0), &[("", Prefix), ("symbols: &mut alloc::vec::Vec<(", Hole(1)), (",", Prefix), ("Symbol<", Hole(2)), (">,", Hole(1)), (")>", Nothing)]),
-    (Step::Line(0), &[(") -> (", Hole(1)), (", ", Hole(3)), (", ", Hole(1)), (")", Nothing)]),
+    (
+        Step::Line(0),
+        &[
+            ("", Prefix),
+            ("symbols: &mut alloc::vec::Vec<(", Hole(1)),
+            (",", Prefix),
+            ("Symbol<", Hole(2)),
+            (">,", Hole(1)),
+            (")>", Nothing),
+        ],
+    ),
+    (
+        Step::Line(0),
+        &[
+            (") -> (", Hole(1)),
+            (", ", Hole(3)),
+            (", ", Hole(1)),
+            (")", Nothing),
+        ],
+    ),
     (Step::Optional(Class::WhereLine), NO_PARTS),
     (Step::Line(1), &[("{", Nothing)]),
-    (Step::Line(0), &[("match ", Prefix), ("symbols.pop() {", Nothing)]),
-    (Step::Line(0), &[("Some((", Prefix), ("l, ", Prefix), ("Symbol::", Hole(0)), ("(", Prefix), ("v), ", Prefix), ("r)) => (", Prefix), ("l, ", Prefix), ("v, ", Prefix), ("r),", Nothing)]),
-    (Step::Line(0), &[("_ => ", Prefix), ("symbol_type_mismatch()", Nothing)]),
+    (
+        Step::Line(0),
+        &[("match ", Prefix), ("symbols.pop() {", Nothing)],
+    ),
+    (
+        Step::Line(0),
+        &[
+            ("Some((", Prefix),
+            ("l, ", Prefix),
+            ("Symbol::", Hole(0)),
+            ("(", Prefix),
+            ("v), ", Prefix),
+            ("r)) => (", Prefix),
+            ("l, ", Prefix),
+            ("v, ", Prefix),
+            ("r),", Nothing),
+        ],
+    ),
+    (
+        Step::Line(0),
+        &[("_ => ", Prefix), ("symbol_type_mismatch()", Nothing)],
+    ),
     (Step::Line(0), &[("}", Nothing)]),
     (Step::Line(0), &[("}", Nothing)]),
 ];
 
 pub const POP_HOLES: &[Kind] = &[Kind::Name, Kind::Text, Kind::Text, Kind::Text];
 
-pub const POP_ROW: &[Line] = &[
-    (Step::Line(2), &[("", Hole(0)), (",", Nothing)]),
-];
+pub const POP_ROW: &[Line] = &[(Step::Line(2), &[("", Hole(0)), (",", Nothing)])];
 
 pub const POP_ROW_HOLES: &[Kind] = &[Kind::Text];
 

@@ -1,0 +1,133 @@
+-- Which form a part is, and the numbers of the forms.
+use Rattle.std.specs.Prelude.{ℕ, Option, Some, None}
+use Rattle.lp_form.specs.declared.part.Part.{Part}
+use Rattle.lp_form.specs.declared.part.Part.TheVariants as part
+use Rattle.lp_form.specs.declared.kind.FormKind.{FormKind}
+use Rattle.lp_form.specs.declared.kind.FormKind.TheVariants as form
+
+-- the number of a form
+abbrev pub number_of : FormKind → ℕ
+number_of form.Program = 1
+number_of form.Attribute = 2
+number_of form.UseLine = 3
+number_of form.StandardUses = 4
+number_of form.ParseModule = 5
+number_of form.TokenUse = 6
+number_of form.Reexport = 7
+number_of form.Header = 8
+number_of form.Parser = 9
+number_of form.TokenSource = 10
+number_of form.SymbolEnum = 11
+number_of form.ActionTable = 12
+number_of form.ActionLookup = 13
+number_of form.EofTable = 14
+number_of form.GotoFn = 15
+number_of form.GotoOne = 16
+number_of form.GotoMatch = 17
+number_of form.TerminalList = 18
+number_of form.Expected = 19
+number_of form.ExpectedFromStates = 20
+number_of form.MachineStruct = 21
+number_of form.MachineImpl = 22
+number_of form.TokenToInteger = 23
+number_of form.TokenToSymbol = 24
+number_of form.SymbolArm = 25
+number_of form.SimulateReduce = 26
+number_of form.Drive = 27
+number_of form.Accepts = 28
+number_of form.Reduce = 29
+number_of form.ReduceBody = 30
+number_of form.Mismatch = 31
+number_of form.Pop = 32
+number_of form.ReduceFn = 33
+number_of form.Start = 34
+number_of form.ReturnEnum = 35
+number_of form.StateFn = 36
+number_of form.ShiftArm = 37
+number_of form.ReduceArm = 38
+number_of form.ErrorArm = 39
+number_of form.Transition = 40
+number_of form.GotoLoop = 41
+number_of form.ActionFn = 42
+number_of form.TokenModule = 43
+number_of form.ToTriple = 44
+number_of form.AscentSimulate = 45
+number_of form.AscentAccepts = 46
+number_of form.AscentExpected = 47
+
+-- the form that a part is; rows and alternatives are none
+unfoldable pub form_of : Part → Option FormKind
+form_of part.Program = Some form.Program
+form_of part.Attribute = Some form.Attribute
+form_of part.UseLine = Some form.UseLine
+form_of part.StandardUses = Some form.StandardUses
+form_of part.ParseModule = Some form.ParseModule
+form_of part.TokenUseInterned = Some form.TokenUse
+form_of part.TokenUsePlain = Some form.TokenUse
+form_of part.Reexport = Some form.Reexport
+form_of part.HeaderParse = Some form.Header
+form_of part.HeaderExpectedFromStates = Some form.Header
+form_of part.HeaderTokenToInteger = Some form.Header
+form_of part.HeaderTokenToSymbol = Some form.Header
+form_of part.HeaderSimulateReduce = Some form.Header
+form_of part.HeaderAccepts = Some form.Header
+form_of part.HeaderReduce = Some form.Header
+form_of part.HeaderReduceFn = Some form.Header
+form_of part.HeaderState = Some form.Header
+form_of part.HeaderAction = Some form.Header
+form_of part.TableParserInterned = Some form.Parser
+form_of part.TableParserPlain = Some form.Parser
+form_of part.AscentParserInterned = Some form.Parser
+form_of part.AscentParserPlain = Some form.Parser
+form_of part.TokenSourceInterned = Some form.TokenSource
+form_of part.TokenSourcePlain = Some form.TokenSource
+form_of part.SymbolEnum = Some form.SymbolEnum
+form_of part.ActionTable = Some form.ActionTable
+form_of part.ActionLookup = Some form.ActionLookup
+form_of part.ActionLookupOne = Some form.ActionLookup
+form_of part.EofTable = Some form.EofTable
+form_of part.GotoFn = Some form.GotoFn
+form_of part.GotoOne = Some form.GotoOne
+form_of part.GotoMatch = Some form.GotoMatch
+form_of part.TerminalList = Some form.TerminalList
+form_of part.Expected = Some form.Expected
+form_of part.ExpectedFromStates = Some form.ExpectedFromStates
+form_of part.MachineStruct = Some form.MachineStruct
+form_of part.MachineImpl = Some form.MachineImpl
+form_of part.TokenToInteger = Some form.TokenToInteger
+form_of part.TokenToSymbol = Some form.TokenToSymbol
+form_of part.SymbolArm = Some form.SymbolArm
+form_of part.SymbolMatch = Some form.SymbolArm
+form_of part.SimulateReduce = Some form.SimulateReduce
+form_of part.Drive = Some form.Drive
+form_of part.Accepts = Some form.Accepts
+form_of part.Reduce = Some form.Reduce
+form_of part.ReduceBody = Some form.ReduceBody
+form_of part.Mismatch = Some form.Mismatch
+form_of part.Pop = Some form.Pop
+form_of part.ReduceFn = Some form.ReduceFn
+form_of part.Start = Some form.Start
+form_of part.ReturnEnum = Some form.ReturnEnum
+form_of part.StateFn = Some form.StateFn
+form_of part.ShiftArm = Some form.ShiftArm
+form_of part.ShiftWhole = Some form.ShiftArm
+form_of part.ReduceMany = Some form.ReduceArm
+form_of part.ReduceToken = Some form.ReduceArm
+form_of part.ReduceEnd = Some form.ReduceArm
+form_of part.ErrorArm = Some form.ErrorArm
+form_of part.Transition = Some form.Transition
+form_of part.GotoReturn = Some form.GotoLoop
+form_of part.GotoLoop = Some form.GotoLoop
+form_of part.ActionFn = Some form.ActionFn
+form_of part.ActionFnUnused = Some form.ActionFn
+form_of part.Lookaround = Some form.ActionFn
+form_of part.LookaroundUnused = Some form.ActionFn
+form_of part.TokenModule = Some form.TokenModule
+form_of part.ToTripleLocatedWhere = Some form.ToTriple
+form_of part.ToTripleLocated = Some form.ToTriple
+form_of part.ToTriplePlainWhere = Some form.ToTriple
+form_of part.ToTriplePlain = Some form.ToTriple
+form_of part.AscentSimulate = Some form.AscentSimulate
+form_of part.AscentAccepts = Some form.AscentAccepts
+form_of part.AscentExpected = Some form.AscentExpected
+form_of _ = None
