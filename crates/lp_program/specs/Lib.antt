@@ -1,0 +1,2 @@
+pub mod ProgramTree
+pub mod Lines

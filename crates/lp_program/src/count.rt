@@ -1,21 +1,25 @@
 //! How many forms a program has, and how large it is.
 
+ghost use Rattle.std.specs.Prelude.{◌≡◌, length, slice_get};
+ghost use Rattle.std.specs.Option.{option_map};
+ghost use Rattle.lp_form.specs.Forms.{number_of};
+ghost use Rattle.lp_program.specs.ProgramTree.{forms};
+
 use crate::tree::{Entry, Program};
-use lp_form::{Kind, form, holes};
+use crate::view::{parts_of, patterns_of};
+use lp_form::{Kind, form, holes, is_element};
 
 /// The number of forms.
-pub fn form_count(program: &Program<'_>) -> usize {
-    let mut count = 0usize;
-    for entry in &program.entries {
-        if form(entry.part).is_some() {
-            count = count.saturating_add(1);
-        }
-    }
-    count
+pub fn form_count(program: &Program<'_>) -> usize
+    ensures { result ≡ length (forms program.now) }
+{
+    program.entries.iter().filter_map(|e| form(e.part)).count()
 }
 
 /// The number of the i-th form in preorder, from 0; None exactly where i is at least the count.
-pub fn form_number(program: &Program<'_>, i: usize) -> Option<u8> {
+pub fn form_number(program: &Program<'_>, i: usize) -> Option<u8>
+    ensures { result ≡ option_map number_of (slice_get (forms program.now) i) }
+{
     let mut left = i;
     for entry in &program.entries {
         if let Some(kind) = form(entry.part) {
@@ -37,9 +41,15 @@ pub fn node_count(program: &Program<'_>) -> u64 {
     count
 }
 
-/// The part itself, its table entries, and the elements of the lists in its holes.
+/// The part itself where it is a form or an element of a list, its table entries, and the elements
+/// of the lists in its holes.
 fn weight(entry: &Entry<'_>) -> u64 {
-    let mut count = 1u64.saturating_add(entry.numbers.len() as u64);
+    let own = if form(entry.part).is_some() || is_element(entry.part) {
+        1u64
+    } else {
+        0u64
+    };
+    let mut count = own.saturating_add(entry.numbers.len() as u64);
     let kinds = holes(entry.part);
     for (i, hole) in entry.holes.iter().enumerate() {
         if i < kinds.len() {
@@ -52,25 +62,10 @@ fn weight(entry: &Entry<'_>) -> u64 {
 /// The elements of a list that stands in one hole.
 fn elements(kind: Kind, text: &str) -> u64 {
     match kind {
-        Kind::Numbers | Kind::Ranges | Kind::Patterns => separators(
-            text.as_bytes(),
-            b'|',
-        ).saturating_add(1),
-        Kind::Arguments | Kind::Symbols | Kind::Names => separators(
-            text.as_bytes(),
-            b',',
-        ).saturating_add(1),
-        Kind::Parameters => separators(text.as_bytes(), b','),
+        Kind::Numbers | Kind::Ranges => parts_of(text, " | ").count() as u64,
+        Kind::Patterns => patterns_of(text).count() as u64,
+        Kind::Arguments | Kind::Symbols | Kind::Names => parts_of(text, ", ").count() as u64,
+        Kind::Parameters => parts_of(text, ", ").count() as u64,
         _ => 0,
     }
-}
-
-fn separators(text: &[u8], separator: u8) -> u64 {
-    let mut count = 0u64;
-    for b in text {
-        if *b == separator {
-            count = count.saturating_add(1);
-        }
-    }
-    count
 }

@@ -1,6 +1,7 @@
 //! Texts of a program: borrowed from the text that was read, or made.
 
-ghost use Rattle.std.specs.Prelude.{◌≡◌};
+ghost use Rattle.std.specs.Prelude.{◌≡◌, IfOk};
+ghost use Rattle.std.specs.Fmt.{decimal};
 ghost use Rattle.std.specs.Cow.{cow_str_bytes};
 
 use std::alloc::{AllocError, Global};
@@ -46,7 +47,9 @@ impl<'t> Piece<'t> {
     }
 
     /// A number in decimal digits.
-    pub fn number(alloc: Global, number: u64) -> Result<Piece<'t>, AllocError> {
+    pub fn number(alloc: Global, number: u64) -> Result<Piece<'t>, AllocError>
+        ensures { IfOk result (λ p. p ≡ decimal number) }
+    {
         Ok(Piece::new(CowStr::Owned(number.to_string(alloc)?)))
     }
 }

@@ -1,5 +1,8 @@
 //! Program trees as flat lists: each part before those below it, with their number.
 
+ghost use Rattle.std.specs.Prelude.{◌≡◌, [], ◌∷◌, IfOk};
+ghost use Rattle.lp_program.specs.ProgramTree.{items, leaf};
+
 use crate::piece::Piece;
 use lp_form::Part;
 use std::alloc::{AllocError, Global};
@@ -46,7 +49,9 @@ impl<'t> Node<'t> {
         alloc: Global,
         part: Part,
         holes: Vec<Piece<'t>>,
-    ) -> Result<Node<'t>, AllocError> {
+    ) -> Result<Node<'t>, AllocError>
+        ensures { IfOk result (λ n. items n ≡ leaf part holes.entry.items) }
+    {
         let mut entries = Vec::new(alloc);
         entries.push(Entry {
             part,

@@ -1,5 +1,8 @@
 //! State functions of recursive ascent, and what their trials ask.
 
+ghost use Rattle.std.specs.Prelude.{◌≡◌, [], ◌∷◌, IfOk};
+ghost use Rattle.lp_program.specs.ProgramTree.{items, leaf};
+
 use super::machine::Reduced;
 use super::{add_numbers, add_text, bare, text_row};
 use crate::piece::{Name, Piece};
@@ -15,7 +18,9 @@ pub fn start<'t>(
     arguments: Piece<'t>,
     phantom: Piece<'t>,
     nonterminal: Piece<'t>,
-) -> Result<Node<'t>, AllocError> {
+) -> Result<Node<'t>, AllocError>
+    ensures { IfOk result (λ n. items n ≡ leaf Part.Start (state_type.entry ∷ arguments.entry ∷ phantom.entry ∷ nonterminal.entry ∷ [])) }
+{
     let holes = vec![in alloc; state_type.into_piece(), arguments, phantom, nonterminal]?;
     Node::leaf(alloc, Part::Start, holes)
 }
@@ -219,11 +224,15 @@ pub fn ascent_simulate<'t>(
 }
 
 /// Form 46: whether a stack of states accepts a terminal.
-pub fn ascent_accepts<'t>(alloc: Global, state_type: Name<'t>) -> Result<Node<'t>, AllocError> {
+pub fn ascent_accepts<'t>(alloc: Global, state_type: Name<'t>) -> Result<Node<'t>, AllocError>
+    ensures { IfOk result (λ n. items n ≡ leaf Part.AscentAccepts (state_type.entry ∷ [])) }
+{
     text_row(alloc, Part::AscentAccepts, state_type.into_piece())
 }
 
 /// Form 47: the terminals that a stack of states accepts.
-pub fn ascent_expected<'t>(alloc: Global, state_type: Name<'t>) -> Result<Node<'t>, AllocError> {
+pub fn ascent_expected<'t>(alloc: Global, state_type: Name<'t>) -> Result<Node<'t>, AllocError>
+    ensures { IfOk result (λ n. items n ≡ leaf Part.AscentExpected (state_type.entry ∷ [])) }
+{
     text_row(alloc, Part::AscentExpected, state_type.into_piece())
 }

@@ -1,5 +1,8 @@
 //! The forms around the modules.
 
+ghost use Rattle.std.specs.Prelude.{◌≡◌, [], ◌∷◌, IfOk, if◌then◌else◌};
+ghost use Rattle.lp_program.specs.ProgramTree.{items, leaf};
+
 use super::{add_text, bare, text_row};
 use crate::piece::{Name, Piece};
 use crate::tree::{Node, Program};
@@ -21,17 +24,23 @@ pub fn program<'t>(
 }
 
 /// Form 2: an attribute of the whole text, from `#![` to `]`.
-pub fn attribute<'t>(alloc: Global, text: Piece<'t>) -> Result<Node<'t>, AllocError> {
+pub fn attribute<'t>(alloc: Global, text: Piece<'t>) -> Result<Node<'t>, AllocError>
+    ensures { IfOk result (λ n. items n ≡ leaf Part.Attribute (text.entry ∷ [])) }
+{
     text_row(alloc, Part::Attribute, text)
 }
 
 /// Form 3: a use, as it is printed between `use ` and `;`.
-pub fn use_line<'t>(alloc: Global, text: Piece<'t>) -> Result<Node<'t>, AllocError> {
+pub fn use_line<'t>(alloc: Global, text: Piece<'t>) -> Result<Node<'t>, AllocError>
+    ensures { IfOk result (λ n. items n ≡ leaf Part.UseLine (text.entry ∷ [])) }
+{
     text_row(alloc, Part::UseLine, text)
 }
 
 /// Form 4: the uses that each module has.
-pub fn standard_uses<'t>(alloc: Global) -> Result<Node<'t>, AllocError> {
+pub fn standard_uses<'t>(alloc: Global) -> Result<Node<'t>, AllocError>
+    ensures { IfOk result (λ n. items n ≡ leaf Part.StandardUses []) }
+{
     bare(alloc, Part::StandardUses)
 }
 
@@ -87,7 +96,9 @@ fn items_with<'t>(alloc: Global, first: Node<'t>) -> Result<Node<'t>, AllocError
 }
 
 /// Form 6: where the token type, or the trait of the tokens, comes from.
-pub fn token_use<'t>(alloc: Global, interned: bool) -> Result<Node<'t>, AllocError> {
+pub fn token_use<'t>(alloc: Global, interned: bool) -> Result<Node<'t>, AllocError>
+    ensures { IfOk result (λ n. items n ≡ leaf (if interned then Part.TokenUseInterned else Part.TokenUsePlain) []) }
+{
     if interned {
         bare(alloc, Part::TokenUseInterned)
     } else {
@@ -102,7 +113,9 @@ pub fn reexport<'t>(
     visibility: Piece<'t>,
     start: Name<'t>,
     public_name: Name<'t>,
-) -> Result<Node<'t>, AllocError> {
+) -> Result<Node<'t>, AllocError>
+    ensures { IfOk result (λ n. items n ≡ leaf Part.Reexport (visibility.entry ∷ start.entry ∷ public_name.entry ∷ [])) }
+{
     Node::leaf(
         alloc,
         Part::Reexport,

@@ -1,5 +1,8 @@
 //! Function headers, and parsers with their `parse` method.
 
+ghost use Rattle.std.specs.Prelude.{◌≡◌, [], IfOk, if◌then◌else◌};
+ghost use Rattle.lp_program.specs.ProgramTree.{items, leaf};
+
 use super::{add_texts, bare, text_row};
 use crate::piece::{Name, Piece};
 use crate::tree::Node;
@@ -105,7 +108,9 @@ pub fn parser<'t>(
 }
 
 /// Form 10: where the tokens come from.
-pub fn token_source<'t>(alloc: Global, interned: bool) -> Result<Node<'t>, AllocError> {
+pub fn token_source<'t>(alloc: Global, interned: bool) -> Result<Node<'t>, AllocError>
+    ensures { IfOk result (λ n. items n ≡ leaf (if interned then Part.TokenSourceInterned else Part.TokenSourcePlain) []) }
+{
     if interned {
         bare(alloc, Part::TokenSourceInterned)
     } else {

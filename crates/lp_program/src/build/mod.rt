@@ -10,6 +10,9 @@ mod machine;
 mod reductions;
 mod table;
 
+ghost use Rattle.std.specs.Prelude.{◌≡◌, [], ◌∷◌, IfOk};
+ghost use Rattle.lp_program.specs.ProgramTree.{items, leaf};
+
 use crate::piece::{Name, Piece};
 use crate::tree::Node;
 pub use action::{ActionBody, InlineCall, InlineSpan, OuterCall, action_fn};
@@ -38,7 +41,9 @@ pub use table::{
 };
 
 /// A part of one text.
-fn text_row<'t>(alloc: Global, part: Part, text: Piece<'t>) -> Result<Node<'t>, AllocError> {
+fn text_row<'t>(alloc: Global, part: Part, text: Piece<'t>) -> Result<Node<'t>, AllocError>
+    ensures { IfOk result (λ n. items n ≡ leaf part (text.entry ∷ [])) }
+{
     Node::leaf(alloc, part, vec![in alloc; text]?)
 }
 
@@ -82,7 +87,9 @@ fn add_numbers<'t>(
 }
 
 /// A part with nothing in it.
-fn bare<'t>(alloc: Global, part: Part) -> Result<Node<'t>, AllocError> {
+fn bare<'t>(alloc: Global, part: Part) -> Result<Node<'t>, AllocError>
+    ensures { IfOk result (λ n. items n ≡ leaf part []) }
+{
     Node::leaf(alloc, part, Vec::new(alloc))
 }
 

@@ -1,5 +1,8 @@
 //! Reductions of the table-driven code.
 
+ghost use Rattle.std.specs.Prelude.{◌≡◌, [], IfOk};
+ghost use Rattle.lp_program.specs.ProgramTree.{items, leaf};
+
 use super::{add_text, add_texts, bare, text_row};
 use crate::piece::{Name, Piece};
 use crate::tree::Node;
@@ -168,7 +171,9 @@ pub fn reduce_body<'t>(
 }
 
 /// Form 31: a symbol of another variant.
-pub fn mismatch<'t>(alloc: Global) -> Result<Node<'t>, AllocError> {
+pub fn mismatch<'t>(alloc: Global) -> Result<Node<'t>, AllocError>
+    ensures { IfOk result (λ n. items n ≡ leaf Part.Mismatch []) }
+{
     bare(alloc, Part::Mismatch)
 }
 

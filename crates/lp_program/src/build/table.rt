@@ -1,5 +1,9 @@
 //! Tables, and what looks them up.
 
+ghost use Rattle.std.specs.Prelude.{◌≡◌, [], ◌∷◌, IfOk};
+ghost use Rattle.std.specs.Fmt.{decimal};
+ghost use Rattle.lp_program.specs.ProgramTree.{items, leaf};
+
 use super::{add_text, add_texts, bare, text_row};
 use crate::piece::{Name, Piece};
 use crate::tree::{Node, RowNote};
@@ -97,7 +101,9 @@ pub fn goto_fn<'t>(
 }
 
 /// Form 16: a nonterminal whose gotos have one target.
-pub fn goto_one<'t>(alloc: Global, nonterminal: u64, target: u64) -> Result<Node<'t>, AllocError> {
+pub fn goto_one<'t>(alloc: Global, nonterminal: u64, target: u64) -> Result<Node<'t>, AllocError>
+    ensures { IfOk result (λ n. items n ≡ leaf Part.GotoOne (decimal nonterminal ∷ decimal target ∷ [])) }
+{
     let nonterminal = Piece::number(alloc, nonterminal)?;
     let target = Piece::number(alloc, target)?;
     Node::leaf(alloc, Part::GotoOne, vec![in alloc; nonterminal, target]?)
@@ -178,7 +184,9 @@ pub fn terminal_list<'t>(alloc: Global, terminals: Vec<Piece<'t>>) -> Result<Nod
 }
 
 /// Form 19: the terminals with an action in a state.
-pub fn expected<'t>(alloc: Global, state_type: Name<'t>) -> Result<Node<'t>, AllocError> {
+pub fn expected<'t>(alloc: Global, state_type: Name<'t>) -> Result<Node<'t>, AllocError>
+    ensures { IfOk result (λ n. items n ≡ leaf Part.Expected (state_type.entry ∷ [])) }
+{
     text_row(alloc, Part::Expected, state_type.into_piece())
 }
 

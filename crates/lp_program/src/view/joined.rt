@@ -3,6 +3,8 @@
 ghost use Rattle.std.specs.Prelude.{◌≡◌, ◌+◌, ◌<◌, ◌≤◌, length};
 ghost use Rattle.std.specs.Iterator.{at_most};
 
+use crate::texts::pattern_end;
+
 /// The elements of a list that is joined by a separator, as `, ` or ` | `.
 #[derive(Drop)]
 pub struct Joined<'p> {
@@ -48,4 +50,36 @@ fn place(text: &[u8], separator: &[u8]) -> usize
         }
     }
     text.len()
+}
+
+/// The patterns of a list that is joined by ` | `.
+#[derive(Drop)]
+pub struct Patterns<'p> {
+    rest: &'p str,
+    left: usize,
+}
+
+/// The patterns of a list that is joined by ` | `. The empty text has none.
+pub fn patterns_of(text: &str) -> Patterns<'_> {
+    Patterns {
+        rest: text,
+        left: text.len(),
+    }
+}
+
+impl<'p> Iterator for Patterns<'p> {
+    type Item = &'p str;
+
+    ghost remaining = { λ s. at_most s.left };
+
+    fn next(&mut self) -> Option<&'p str> {
+        let rest = self.rest;
+        if self.left == 0 || rest.is_empty() {
+            return None;
+        }
+        self.left -= 1;
+        let end = pattern_end(rest.as_bytes());
+        self.rest = rest.get(end.saturating_add(3)..).unwrap_or("");
+        Some(rest.get(..end).unwrap_or(rest))
+    }
 }

@@ -10,7 +10,8 @@ mod walk;
 pub use form_view::{
     ActionView, FormView, LocationView, NameView, ReductionView, SpanView, TriplesView,
 };
-pub use joined::{Joined, parts_of};
+pub use joined::{Joined, Patterns, parts_of, patterns_of};
 pub use part::{PartRef, Parts};
 pub use row::{RowView, Rows};
+pub(crate) use walk::end_of;
 pub use walk::{Below, FormRef};

@@ -1,0 +1,9 @@
+//! Reading a program from its text.
+
+mod cursor;
+mod fill;
+mod line;
+mod reader;
+mod rows;
+
+pub use reader::{ReadFault, read_program};

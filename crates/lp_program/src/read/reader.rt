@@ -1,0 +1,506 @@
+//! The reader of programs: by the templates of the parts, from the front of the text on.
+
+ghost use Rattle.std.specs.Prelude.{◌≡◌, ◌<◌, ◌≤◌, length};
+
+use crate::piece::Piece;
+use crate::read::cursor::Cursor;
+use crate::read::line::{Scope, read_line};
+use crate::read::rows::{Table, read_entries};
+use crate::tree::{Entry, Program};
+use lp_form::{Class, Line, Part, Step, holes, members, steps};
+use lp_tok::code_end;
+use std::alloc::{AllocError, Global};
+use std::borrow::CowStr;
+
+/// Why a text wasn't read.
+#[derive(Clone, Copy, Debug, PartialEq, Eq)]
+pub enum ReadFault {
+    /// The first line, from 1, that fits no form at its place; one past the last line where the
+    /// text ends too early.
+    NoForm { line: usize },
+    Memory,
+}
+
+impl From<AllocError> for ReadFault {
+    fn from(_error: AllocError) -> ReadFault {
+        ReadFault::Memory
+    }
+}
+
+/// How deep parts may stand in one another; no program has more.
+const DEPTH: usize = 16;
+
+/// A reader at a place of its text.
+#[derive(Drop)]
+struct Reader<'t> {
+    alloc: Global,
+    prefix: &'t str,
+    cursor: Cursor<'t>,
+    /// The last line that didn't fit.
+    worst: usize,
+    entries: Vec<Entry<'t>>,
+}
+
+/// The program that the text reads as. Its texts are borrowed from the text. Outside code, uses and
+/// attributes, blanks at the front of a line, empty lines and comment lines don't count; in table
+/// rows neither do blanks, line ends and what follows `//` after an entry.
+pub fn read_program<'t>(alloc: Global, text: &'t str) -> Result<Program<'t>, ReadFault> {
+    let mut reader = Reader {
+        alloc,
+        prefix: prefix_of(text),
+        cursor: Cursor::new(text),
+        worst: 0,
+        entries: Vec::new(alloc),
+    };
+    if reader.read_part(DEPTH, Part::Program)? && reader.at_end() {
+        let Reader {
+            prefix,
+            entries,
+            ..
+        } = reader;
+        return Ok(Program {
+            prefix: Piece::new(CowStr::Borrowed(prefix)),
+            entries,
+        });
+    }
+    Err(ReadFault::NoForm { line: reader.worst })
+}
+
+/// The prefix that the standard uses show; the empty text where they show none.
+fn prefix_of(text: &str) -> &str {
+    let mut cursor = Cursor::new(text);
+    for _ in 0..text.len() {
+        let Some(line) = cursor.line() else {
+            return "";
+        };
+        if line.starts_with("use ") {
+            match use_end(cursor) {
+                Some((_, next)) => cursor = cursor.at(next),
+                None => return "",
+            }
+        } else {
+            if let Some(name) = line.strip_prefix("extern crate lalrpop_util as ") {
+                return name.strip_suffix("lalrpop_util;").unwrap_or("");
+            }
+            cursor = cursor.after_line();
+        }
+    }
+    ""
+}
+
+/// The text of the use in the next line, and the place after its `;`.
+fn use_end<'t>(cursor: Cursor<'t>) -> Option<(&'t str, usize)> {
+    let text = cursor.text();
+    let from = cursor.start().saturating_add(4);
+    if from > text.len() || !text.is_char_boundary(from) {
+        return None;
+    }
+    let end = code_end(text, from).ok()?;
+    let after = text.get(end..)?;
+    if !after.starts_with(";") {
+        return None;
+    }
+    let next = end.saturating_add(1);
+    let rest = text.get(next..)?;
+    if !rest.is_empty() && !rest.starts_with("\n") {
+        return None;
+    }
+    Some((text.get(from..end)?, next))
+}
+
+impl<'t> Reader<'t> {
+    fn scope(&self, part: Part) -> Scope<'t> {
+        Scope {
+            alloc: self.alloc,
+            prefix: self.prefix,
+            kinds: holes(part),
+        }
+    }
+
+    /// Notes that a line doesn't fit.
+    fn miss(&mut self, line: usize) {
+        if line > self.worst {
+            self.worst = line;
+        }
+    }
+
+    /// Whether nothing is left that counts.
+    fn at_end(&mut self) -> bool {
+        if self.cursor.line().is_none() {
+            return true;
+        }
+        let line = self.cursor.number();
+        self.miss(line);
+        false
+    }
+
+    /// Reads a part with all below it.
+    #[cycle(reading)]
+    fn read_part(&mut self, depth: usize, part: Part) -> Result<bool, AllocError> {
+        if depth == 0 {
+            return Ok(false);
+        }
+        let at = self.entries.len();
+        self.entries.push(Entry {
+            part,
+            holes: Vec::new(self.alloc),
+            numbers: Vec::new(self.alloc),
+            notes: Vec::new(self.alloc),
+            below: 0,
+        })?;
+        let mut known = Vec::new(self.alloc);
+        for step in steps(part) {
+            if !self.read_step(depth - 1, at, *step, &mut known)? {
+                return Ok(false);
+            }
+        }
+        self.finish(at, known);
+        Ok(true)
+    }
+
+    /// Puts in what was not known when a part was added.
+    fn finish(&mut self, at: usize, known: Vec<Piece<'t>>) {
+        let count = self.entries.len();
+        if at < count {
+            let entry = &mut self.entries[at];
+            entry.holes = known;
+            entry.below = count - at - 1;
+        }
+    }
+
+    /// Reads what a step prints.
+    #[cycle(reading)]
+    fn read_step(
+        &mut self,
+        depth: usize,
+        at: usize,
+        step: Line,
+        known: &mut Vec<Piece<'t>>,
+    ) -> Result<bool, AllocError> {
+        match step.0 {
+            Step::One(class) => self.read_class(depth, at, class),
+            Step::Optional(class) => self.read_optional(depth, class),
+            Step::Many(class) => self.read_many(depth, class),
+            Step::Some(class) => Ok(
+                self.read_class(depth, at, class)? && self.read_many(depth, class)?,
+            ),
+            Step::Pairs(first, second) => self.read_pairs(depth, at, first, second),
+            _ => self.read_own(at, step, known),
+        }
+    }
+
+    /// Reads what a step prints that has no parts below.
+    fn read_own(
+        &mut self,
+        at: usize,
+        step: Line,
+        known: &mut Vec<Piece<'t>>,
+    ) -> Result<bool, AllocError> {
+        match step.0 {
+            Step::Line(_) => self.take_line(at, step, known),
+            Step::Each(_) => {
+                for _ in 0..self.kids_of(at) {
+                    if !self.take_line(at, step, known)? {
+                        return Ok(false);
+                    }
+                }
+                Ok(true)
+            }
+            Step::Use => self.take_use(known),
+            Step::Code => self.take_code(known),
+            Step::Entries => self.take_entries(at),
+            _ => Ok(true),
+        }
+    }
+
+    /// How many parts stand directly below a part, so far.
+    fn kids_of(&self, at: usize) -> usize {
+        let mut count = 0usize;
+        let mut i = at.saturating_add(1);
+        for _ in 0..self.entries.len() {
+            if i >= self.entries.len() {
+                break;
+            }
+            count = count.saturating_add(1);
+            i = i.saturating_add(1).saturating_add(self.entries[i].below);
+        }
+        count
+    }
+
+    /// Takes a line that is spelled by the step.
+    fn take_line(
+        &mut self,
+        at: usize,
+        step: Line,
+        known: &mut Vec<Piece<'t>>,
+    ) -> Result<bool, AllocError> {
+        let part = if at < self.entries.len() {
+            self.entries[at].part
+        } else {
+            Part::Program
+        };
+        let scope = self.scope(part);
+        if let Some(line) = self.cursor.line() {
+            if read_line(scope, step.1, known, line)? {
+                self.cursor = self.cursor.after_line();
+                return Ok(true);
+            }
+        }
+        let line = self.cursor.number();
+        self.miss(line);
+        Ok(false)
+    }
+
+    /// Takes a use.
+    fn take_use(&mut self, known: &mut Vec<Piece<'t>>) -> Result<bool, AllocError> {
+        match use_end(self.cursor) {
+            Some((text, next)) => {
+                known.push(Piece::new(CowStr::Borrowed(text)))?;
+                self.cursor = self.cursor.at(next);
+                Ok(true)
+            }
+            None => {
+                let from = self.cursor.start().saturating_add(4);
+                self.miss_cut(from);
+                Ok(false)
+            }
+        }
+    }
+
+    /// Notes the line at which a cut from a place stopped or failed.
+    fn miss_cut(&mut self, from: usize) {
+        let text = self.cursor.text();
+        let line = if from <= text.len() && text.is_char_boundary(from) {
+            match code_end(text, from) {
+                Ok(end) => {
+                    if end < text.len() {
+                        self.cursor.line_at(end)
+                    } else {
+                        self.cursor.past_last()
+                    }
+                }
+                Err(_) => self.cursor.past_last(),
+            }
+        } else {
+            self.cursor.past_last()
+        };
+        self.miss(line);
+    }
+
+    /// Takes user code: up to the `}` at which its cut stops, without the line feed before it.
+    fn take_code(&mut self, known: &mut Vec<Piece<'t>>) -> Result<bool, AllocError> {
+        let text = self.cursor.text();
+        let from = self.cursor.raw();
+        if from <= text.len() && text.is_char_boundary(from) {
+            if let Ok(end) = code_end(text, from) {
+                if let (Some(code), Some(after)) = (text.get(from..end), text.get(end..)) {
+                    if after.starts_with("}") {
+                        let code = code.strip_suffix("\n").unwrap_or(code);
+                        known.push(Piece::new(CowStr::Borrowed(code)))?;
+                        self.cursor = self.cursor.at(end);
+                        return Ok(true);
+                    }
+                }
+            }
+        }
+        self.miss_cut(from);
+        Ok(false)
+    }
+
+    /// Takes the entries of a table.
+    fn take_entries(&mut self, at: usize) -> Result<bool, AllocError> {
+        let text = self.cursor.text();
+        let from = self.cursor.raw();
+        let Table {
+            numbers,
+            end,
+            ended,
+        } = read_entries(self.alloc, text, from)?;
+        if !ended {
+            let line = if end < text.len() {
+                self.cursor.line_at(end)
+            } else {
+                self.cursor.past_last()
+            };
+            self.miss(line);
+            return Ok(false);
+        }
+        if at < self.entries.len() {
+            let entry = &mut self.entries[at];
+            entry.numbers = numbers;
+        }
+        self.cursor = self.cursor.at(end);
+        Ok(true)
+    }
+
+    /// Whether the lines in front begin the part.
+    #[cycle(looking)]
+    fn begins(&mut self, depth: usize, part: Part) -> Result<bool, AllocError> {
+        if depth == 0 {
+            return Ok(false);
+        }
+        let scope = self.scope(part);
+        let mut known = Vec::new(self.alloc);
+        let mut cursor = self.cursor;
+        let mut lines = false;
+        for step in steps(part) {
+            match step.0 {
+                Step::Line(_) => {
+                    let fits = match cursor.line() {
+                        Some(line) => read_line(scope, step.1, &mut known, line)?,
+                        None => false,
+                    };
+                    if !fits {
+                        self.miss(cursor.number());
+                        return Ok(false);
+                    }
+                    cursor = cursor.after_line();
+                    lines = true;
+                }
+                Step::Empty | Step::Note | Step::NoteAlways => {}
+                Step::Use => return Ok(self.begins_use()),
+                Step::One(class) => {
+                    return Ok(lines || self.pick(depth - 1, class)?.is_some());
+                }
+                _ => return Ok(true),
+            }
+        }
+        Ok(true)
+    }
+
+    /// Whether the next line begins a use.
+    fn begins_use(&mut self) -> bool {
+        match self.cursor.line() {
+            Some(line) if line.starts_with("use ") => true,
+            _ => {
+                let line = self.cursor.number();
+                self.miss(line);
+                false
+            }
+        }
+    }
+
+    /// The part of a class that the lines in front begin.
+    #[cycle(looking)]
+    fn pick(&mut self, depth: usize, class: Class) -> Result<Option<Part>, AllocError> {
+        for part in members(class) {
+            if self.begins(depth, *part)? {
+                return Ok(Some(*part));
+            }
+        }
+        Ok(None)
+    }
+
+    /// Reads one part of a class.
+    #[cycle(reading)]
+    fn read_class(&mut self, depth: usize, at: usize, class: Class) -> Result<bool, AllocError> {
+        if class == Class::ActionBody {
+            return self.read_body(depth, at);
+        }
+        let parts = members(class);
+        if parts.len() == 1 {
+            return self.read_part(depth, parts[0]);
+        }
+        match self.pick(depth, class)? {
+            Some(part) => self.read_part(depth, part),
+            None => Ok(false),
+        }
+    }
+
+    /// Reads a part of a class, if one is there.
+    #[cycle(reading)]
+    fn read_optional(&mut self, depth: usize, class: Class) -> Result<bool, AllocError> {
+        match self.pick(depth, class)? {
+            Some(part) => self.read_part(depth, part),
+            None => Ok(true),
+        }
+    }
+
+    /// Reads as many parts of a class as there are.
+    #[cycle(reading)]
+    fn read_many(&mut self, depth: usize, class: Class) -> Result<bool, AllocError> {
+        for _ in 0..self.cursor.text().len() {
+            match self.pick(depth, class)? {
+                Some(part) => {
+                    if !self.read_part(depth, part)? {
+                        return Ok(false);
+                    }
+                }
+                None => return Ok(true),
+            }
+        }
+        Ok(true)
+    }
+
+    /// Reads as many pairs as there are.
+    #[cycle(reading)]
+    fn read_pairs(
+        &mut self,
+        depth: usize,
+        at: usize,
+        first: Class,
+        second: Class,
+    ) -> Result<bool, AllocError> {
+        for _ in 0..self.cursor.text().len() {
+            match self.pick(depth, first)? {
+                Some(part) => {
+                    if !self.read_part(depth, part)? || !self.read_class(depth, at, second)? {
+                        return Ok(false);
+                    }
+                }
+                None => return Ok(true),
+            }
+        }
+        Ok(true)
+    }
+
+    /// Reads the body of an action: inlined actions where the parameters are theirs, or where there
+    /// are none and the lines are those of inlined actions; else user code.
+    #[cycle(reading)]
+    fn read_body(&mut self, depth: usize, at: usize) -> Result<bool, AllocError> {
+        match self.last_parameter(at) {
+            Parameters::User => self.read_part(depth, Part::UserBody),
+            Parameters::Inlined => self.read_part(depth, Part::InlineBody),
+            Parameters::None => {
+                let cursor = self.cursor;
+                let count = self.entries.len();
+                if self.read_part(depth, Part::InlineBody)? && self.cursor.line() == Some("}") {
+                    return Ok(true);
+                }
+                self.cursor = cursor;
+                self.entries.truncate(count);
+                self.read_part(depth, Part::UserBody)
+            }
+        }
+    }
+
+    /// Whose parameters the header of an action ends with.
+    fn last_parameter(&self, at: usize) -> Parameters {
+        let mut last = "";
+        for i in at..self.entries.len() {
+            let entry = &self.entries[i];
+            if entry.part == Part::ParameterRow && !entry.holes.is_empty() {
+                last = entry.holes[0].as_str();
+            }
+        }
+        if last.starts_with("(_, ") {
+            return Parameters::User;
+        }
+        match last.strip_prefix(self.prefix) {
+            Some(rest) if rest.starts_with("look") => Parameters::None,
+            Some(_) => Parameters::Inlined,
+            None => Parameters::None,
+        }
+    }
+}
+
+/// Whose parameters an action has after those of the grammar.
+#[derive(Clone, Copy, PartialEq, Eq)]
+enum Parameters {
+    /// Patterns of user code.
+    User,
+    /// Numbered arguments of inlined actions.
+    Inlined,
+    /// None.
+    None,
+}
