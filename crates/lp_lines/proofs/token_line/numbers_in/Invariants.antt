@@ -1,0 +1,8 @@
+use Rattle.std.proofs.Common.{◌≡◌, take, map, Some}
+use Rattle.lp_lines.specs.Scan.{all_some}
+use Rattle.lp_lines.specs.Scan.{number_of}
+use Rattle.lp_lines.proofs.token_line.numbers_in.Given as goal
+
+-- the parts so far, each of which is there
+abbrev pub invariant-loop-part : goal.invariant-loop-part
+invariant-loop-part l = all_some (map (λ p. number_of p.now) (take l.part-index l.parts)) ≡ Some l.list.items

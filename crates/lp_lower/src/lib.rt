@@ -1,0 +1,14 @@
+//! Plain grammars, and the lowered grammars that they stand for.
+#![tactic(auto)]
+
+mod build;
+mod expand;
+mod lowering;
+mod names;
+mod plain;
+#[cfg(test)]
+mod tests;
+mod types;
+
+pub use lowering::{LowerFault, lower};
+pub use plain::{PlainAlternative, PlainGrammar, PlainKind, PlainRule, PlainSymbol, PlainTerminal};

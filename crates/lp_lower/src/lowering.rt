@@ -1,0 +1,48 @@
+//! Lowering, and its refusals.
+
+use crate::build::lower_rules;
+use crate::expand::{inline_extents, too_many};
+use crate::names::{Names, duplicate, inline_order, unknown_name};
+use crate::plain::PlainGrammar;
+use lp_repr::repr::Grammar;
+use std::alloc::{AllocError, Global};
+
+/// Why a plain grammar isn't lowered. Places are bytes of its file.
+#[derive(Clone, Copy, Debug, PartialEq, Eq)]
+pub enum LowerFault {
+    /// The symbol here is neither a rule nor a terminal.
+    UnknownName { place: usize },
+    /// The symbol here is an inline rule that isn't above the inline rule that uses it.
+    InlineOrder { place: usize },
+    /// The rule or terminal here stands a second time, or its pattern's text does.
+    Duplicate { place: usize },
+    /// With the rule here the expanded rules have more alternatives or symbols than they may.
+    TooManyProductions { place: usize },
+    Memory,
+}
+
+impl From<AllocError> for LowerFault {
+    fn from(_e: AllocError) -> LowerFault {
+        LowerFault::Memory
+    }
+}
+
+/// The grammar that a plain grammar stands for. The refusals come in the order of `LowerFault`,
+/// each at its least place.
+pub fn lower(alloc: Global, grammar: &PlainGrammar) -> Result<Grammar, LowerFault> {
+    let names = Names::new(alloc, grammar)?;
+    if let Some(place) = unknown_name(grammar, &names) {
+        return Err(LowerFault::UnknownName { place });
+    }
+    if let Some(place) = inline_order(grammar, &names) {
+        return Err(LowerFault::InlineOrder { place });
+    }
+    if let Some(place) = duplicate(alloc, grammar)? {
+        return Err(LowerFault::Duplicate { place });
+    }
+    let inline = inline_extents(alloc, grammar, &names)?;
+    if let Some(place) = too_many(grammar, &names, inline.as_slice()) {
+        return Err(LowerFault::TooManyProductions { place });
+    }
+    Ok(lower_rules(alloc, grammar, &names, inline.as_slice())?)
+}
