@@ -7,3 +7,4 @@ pub mod FreeVariables
 pub mod Closure
 pub mod ValidTables
 pub mod Escapes
+pub mod Shown

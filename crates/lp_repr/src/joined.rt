@@ -1,13 +1,29 @@
 //! Elements shown one after another.
 
+ghost use Rattle.std.specs.Prelude.{◌++◌};
+ghost use Rattle.std.specs.List.{flat_map, join_by};
+ghost use Rattle.std.specs.Fmt.{WritesOnOk};
+
 use std::fmt;
 
+/// What is always shown as the same text.
+pub trait Shown: fmt::Display {
+    ghost use Rattle.std.specs.Prelude.{◌≡◌, ℕ, List, Some};
+
+    /// The text.
+    ghost text: { Self → List ℕ };
+
+    ghost shows: { (x : Self) → Self.output x ≡ Some (text x) };
+}
+
 /// The elements, with a text between each two.
-pub(crate) fn write_joined<W: fmt::Write, T: fmt::Display>(
+pub(crate) fn write_joined<W: fmt::Write, T: Shown>(
     f: &mut fmt::Formatter<W>,
     items: &[T],
     separator: &str,
-) -> fmt::Result {
+) -> fmt::Result
+    ensures { WritesOnOk W.write_str_gives f.old result (join_by T.text separator.now items.now) f.new }
+{
     match items.split_first() {
         None => Ok(()),
         Some((first, rest)) => {
@@ -18,13 +34,30 @@ pub(crate) fn write_joined<W: fmt::Write, T: fmt::Display>(
 }
 
 /// The elements, each after the text.
-pub(crate) fn write_after_each<W: fmt::Write, T: fmt::Display>(
+pub(crate) fn write_after_each<W: fmt::Write, T: Shown>(
+    f: &mut fmt::Formatter<W>,
+    items: &[T],
+    separator: &str,
+) -> fmt::Result
+    ensures { WritesOnOk W.write_str_gives f.old result (flat_map (λ x. separator.now ++ T.text x) items.now) f.new }
+{
+    for item in items {
+        f.write_str(separator)?;
+        item.fmt(f)?;
+    }
+    Ok(())
+}
+
+/// The elements, with a text between each two, whatever each is shown as.
+pub(crate) fn write_listed<W: fmt::Write, T: fmt::Display>(
     f: &mut fmt::Formatter<W>,
     items: &[T],
     separator: &str,
 ) -> fmt::Result {
-    for item in items {
-        f.write_str(separator)?;
+    for (i, item) in items.iter().enumerate() {
+        if i > 0 {
+            f.write_str(separator)?;
+        }
         item.fmt(f)?;
     }
     Ok(())

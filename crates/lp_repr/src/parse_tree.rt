@@ -1,6 +1,10 @@
 //! What a grammar file says of names, bounds and visibilities.
 
-use crate::joined::write_joined;
+ghost use Rattle.std.specs.Prelude.{◌++◌, Some, codes, refl};
+ghost use Rattle.std.specs.Fmt.{WritesOnOk};
+ghost use Rattle.lp_repr.specs.Shown.{parameter_text, path_text, visibility_text, binder_text};
+
+use crate::joined::{Shown, write_joined, write_listed};
 use crate::text::{Items, Text};
 use std::fmt;
 use std::fmt::Display;
@@ -66,6 +70,8 @@ pub enum WhereClause<T> {
 }
 
 impl fmt::Display for Path {
+    ghost output = { λ x. Some (path_text x) };
+
     /// `a::b` or `::a::b`.
     fn fmt<W: fmt::Write>(&self, f: &mut fmt::Formatter<W>) -> fmt::Result {
         if self.absolute {
@@ -76,6 +82,8 @@ impl fmt::Display for Path {
 }
 
 impl fmt::Display for TypeParameter {
+    ghost output = { λ x. Some (parameter_text x) };
+
     fn fmt<W: fmt::Write>(&self, f: &mut fmt::Formatter<W>) -> fmt::Result {
         match self {
             TypeParameter::Lifetime(name) => name.fmt(f),
@@ -85,6 +93,8 @@ impl fmt::Display for TypeParameter {
 }
 
 impl fmt::Display for Visibility {
+    ghost output = { λ x. Some (visibility_text x) };
+
     /// `pub `, `pub(path) ` or nothing.
     fn fmt<W: fmt::Write>(&self, f: &mut fmt::Formatter<W>) -> fmt::Result {
         match self {
@@ -103,7 +113,9 @@ impl fmt::Display for Visibility {
 pub(crate) fn write_binder<W: fmt::Write>(
     f: &mut fmt::Formatter<W>,
     binder: &[TypeParameter],
-) -> fmt::Result {
+) -> fmt::Result
+    ensures { WritesOnOk W.write_str_gives f.old result (binder_text binder.now) f.new }
+{
     if binder.is_empty() {
         return Ok(());
     }
@@ -147,8 +159,16 @@ fn write_call<W: fmt::Write, T: fmt::Display>(
     ret: &Option<T>,
 ) -> fmt::Result {
     f.write_str("(")?;
-    write_joined(f, parameters, ", ")?;
+    write_listed(f, parameters, ", ")?;
     f.write_str(")")?;
+    write_ret(f, ret)
+}
+
+/// ` -> C`, or nothing.
+fn write_ret<W: fmt::Write, T: fmt::Display>(
+    f: &mut fmt::Formatter<W>,
+    ret: &Option<T>,
+) -> fmt::Result {
     match ret {
         None => Ok(()),
         Some(ret) => {
@@ -167,7 +187,7 @@ fn write_arguments<W: fmt::Write, T: fmt::Display>(
         return Ok(());
     }
     f.write_str("<")?;
-    write_joined(f, arguments, ", ")?;
+    write_listed(f, arguments, ", ")?;
     f.write_str(">")
 }
 
@@ -199,8 +219,14 @@ impl<T: fmt::Display> fmt::Display for WhereClause<T> {
                 write_binder(f, binder.as_slice())?;
                 ty.fmt(f)?;
                 f.write_str(": ")?;
-                write_joined(f, bounds.as_slice(), " + ")
+                write_listed(f, bounds.as_slice(), " + ")
             }
         }
     }
+}
+
+impl Shown for TypeParameter {
+    ghost text = { parameter_text };
+
+    ghost shows = { λ _. refl };
 }

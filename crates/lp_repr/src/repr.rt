@@ -1,7 +1,11 @@
 //! The lowered grammar.
 
+ghost use Rattle.std.specs.Prelude.{◌++◌, Some, refl, codes, decimal};
+ghost use Rattle.std.specs.Fmt.{WritesOnOk};
+ghost use Rattle.lp_repr.specs.Shown.{terminal_text, symbol_text, production_text, pattern_text};
+
 use crate::escaped::Escaped;
-use crate::joined::write_joined;
+use crate::joined::{Shown, write_joined};
 use crate::parse_tree::{Path, TypeBound, TypeParameter, Visibility, write_binder};
 use crate::text::{Items, Text};
 use std::collections::BTreeMap;
@@ -211,12 +215,16 @@ pub enum WhereClause {
 }
 
 impl fmt::Display for NonterminalString {
+    ghost output = { λ x. Some (x.0) };
+
     fn fmt<W: fmt::Write>(&self, f: &mut fmt::Formatter<W>) -> fmt::Result {
         self.0.fmt(f)
     }
 }
 
 impl fmt::Display for TerminalString {
+    ghost output = { λ x. Some (terminal_text x) };
+
     /// A quoted one as a literal, a bare one as it is, the error terminal as `error`.
     fn fmt<W: fmt::Write>(&self, f: &mut fmt::Formatter<W>) -> fmt::Result {
         match self {
@@ -228,6 +236,8 @@ impl fmt::Display for TerminalString {
 }
 
 impl fmt::Display for Symbol {
+    ghost output = { λ x. Some (symbol_text x) };
+
     fn fmt<W: fmt::Write>(&self, f: &mut fmt::Formatter<W>) -> fmt::Result {
         match self {
             Symbol::Nonterminal(name) => name.fmt(f),
@@ -236,19 +246,36 @@ impl fmt::Display for Symbol {
     }
 }
 
+impl Shown for Symbol {
+    ghost text = { symbol_text };
+
+    ghost shows = { λ _. refl };
+}
+
 impl fmt::Display for Production {
+    ghost output = { λ x. Some (production_text x) };
+
     /// `N = s, t => ActionFn(a);`
     fn fmt<W: fmt::Write>(&self, f: &mut fmt::Formatter<W>) -> fmt::Result {
         self.nonterminal.fmt(f)?;
         f.write_str(" = ")?;
         write_joined(f, self.symbols.as_slice(), ", ")?;
-        f.write_str(" => ActionFn(")?;
-        self.action.fmt(f)?;
-        f.write_str(");")
+        write_action(f, self.action)
     }
 }
 
+/// ` => ActionFn(a);`
+fn write_action<W: fmt::Write>(f: &mut fmt::Formatter<W>, action: usize) -> fmt::Result
+    ensures { WritesOnOk W.write_str_gives f.old result (codes " => ActionFn(" ++ (decimal action ++ codes ");")) f.new }
+{
+    f.write_str(" => ActionFn(")?;
+    action.fmt(f)?;
+    f.write_str(");")
+}
+
 impl fmt::Display for TokenPattern {
+    ghost output = { λ x. Some (pattern_text x) };
+
     /// The pieces, with `_` in the holes.
     fn fmt<W: fmt::Write>(&self, f: &mut fmt::Formatter<W>) -> fmt::Result {
         write_joined(f, self.pieces.as_slice(), "_")

@@ -2,6 +2,7 @@
 
 ghost use Rattle.std.specs.Prelude.{◌≡◌, string_bytes, IfOk, Some};
 
+use crate::joined::Shown;
 use std::alloc::{AllocError, Global};
 use std::cmp::Ordering;
 use std::fmt;
@@ -100,6 +101,14 @@ impl Ord for Text {
     fn cmp(&self, other: &Self) -> Ordering {
         self.as_str().cmp(other.as_str())
     }
+}
+
+impl Shown for Text {
+    ghost use Rattle.std.specs.Prelude.{refl};
+
+    ghost text = { λ t. t };
+
+    ghost shows = { λ _. refl };
 }
 
 /// A list, which contracts see as its elements.
