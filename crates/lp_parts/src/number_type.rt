@@ -16,16 +16,3 @@ pub fn state_type(states: usize, productions: usize) -> &'static str
         "i32"
     }
 }
-
-#[cfg(test)]
-mod tests {
-    use super::*;
-
-    #[test]
-    fn the_type_grows_with_the_greater_count(rt: HostRuntime) {
-        assert_eq!(rt; state_type(127, 127), "i8");
-        assert_eq!(rt; state_type(128, 1), "i16");
-        assert_eq!(rt; state_type(1, 32767), "i16");
-        assert_eq!(rt; state_type(32768, 1), "i32");
-    }
-}

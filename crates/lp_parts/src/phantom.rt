@@ -45,26 +45,3 @@ fn push_separator(text: &mut String, place: usize) -> Result<(), AllocError> {
     }
     Ok(())
 }
-
-#[cfg(test)]
-mod tests {
-    use super::*;
-    use lp_repr::Text;
-    use std::test::Fail;
-
-    #[test]
-    fn each_parameter_stands_in_the_phantom(rt: HostRuntime) -> Result<(), Fail> {
-        let alloc = rt.alloc();
-        let lifetime = TypeParameter::Lifetime(Text::from_str(alloc, "'a")?);
-        let id = TypeParameter::Id(Text::from_str(alloc, "T")?);
-        let parameters = vec![in alloc; lifetime, id]?;
-        let ty = phantom_type(alloc, parameters.as_slice())?;
-        assert_eq!(rt; ty.as_str(), "core::marker::PhantomData<(&'a (), T)>");
-        let expression = phantom_expression(alloc, parameters.as_slice())?;
-        assert_eq!(rt;
-            expression.as_str(),
-            "core::marker::PhantomData::<(&(), T)>"
-        );
-        Ok(())
-    }
-}

@@ -22,6 +22,3 @@ pub use matching::{matched_terminal, matches};
 pub use normal::norm;
 pub use state_parts::{max_prefix, successors, will_pop, will_produce, will_push};
 pub use text::{Items, Text};
-
-#[cfg(test)]
-mod tests;

@@ -19,6 +19,3 @@ mod texts;
 mod turns;
 
 pub use run::{Run, run_program};
-
-#[cfg(test)]
-mod tests;

@@ -299,6 +299,3 @@ impl<'g> Names<'g> {
         Ok(())
     }
 }
-
-#[cfg(test)]
-mod tests;

@@ -14,6 +14,3 @@ mod terminals;
 pub use grammars::{GrammarFault, check_grammar};
 pub use names::is_identifier;
 pub use tables::{TableFault, check_tables};
-
-#[cfg(test)]
-mod tests;

@@ -8,8 +8,6 @@ pub mod rust;
 pub mod sinks;
 pub mod sources;
 pub mod standard;
-#[cfg(test)]
-mod tests;
 pub mod util;
 
 pub use counting::CountSink;

@@ -1,0 +1,99 @@
+//! The runs of a parser text.
+
+use lp_driver::RunError;
+use lp_plain::{Block, TokenLine, append_block};
+use lp_program::{Program, ReadFault, read_program};
+use lp_repr::Text;
+use lp_run::{Run, run_program};
+use std::alloc::{AllocError, Global};
+
+/// Why a text has no runs.
+#[derive(Clone, Copy, Debug, PartialEq, Eq)]
+pub enum TextRunFault {
+    /// The text reads as no program; the line, counted from 1, is the first that fits no form.
+    NoForm { line: usize },
+    /// No parse module has the start of this token line, counted from 1.
+    NoStart { line: usize },
+    /// The program of this token line, counted from 1, takes another number of parameters.
+    ParameterCount { line: usize },
+    Memory,
+}
+
+impl From<AllocError> for TextRunFault {
+    ghost use Rattle.lp_main.specs.declared.text_run.TextRunFault.TheVariants.{Memory};
+
+    ghost from_gives = { λ _ e. e ≡ Memory };
+
+    fn from(_error: AllocError) -> TextRunFault {
+        TextRunFault::Memory
+    }
+}
+
+/// The blocks of the token lines, numbered from 1: each has the events, the outcome and the number
+/// of steps of the program that the text reads as. A run that is stuck gives a block without
+/// events, with the outcome `stuck` and the steps made until then.
+pub fn run_text(
+    alloc: Global,
+    text: &str,
+    lines: &[TokenLine],
+    params: &[Text],
+) -> Result<Vec<u8>, TextRunFault> {
+    let program = match read_program(alloc, text) {
+        Ok(program) => program,
+        Err(ReadFault::NoForm { line }) => return Err(TextRunFault::NoForm { line }),
+        Err(ReadFault::Memory) => return Err(TextRunFault::Memory),
+    };
+    let mut out = String::new(alloc);
+    for (i, line) in lines.iter().enumerate() {
+        run_line(alloc, &program, i + 1, line, params, &mut out)?;
+    }
+    Ok(out.into_bytes())
+}
+
+fn run_line(
+    alloc: Global,
+    program: &Program<'_>,
+    number: usize,
+    line: &TokenLine,
+    params: &[Text],
+    out: &mut String,
+) -> Result<(), TextRunFault> {
+    let start = line.start.as_str();
+    let items = line.items.as_slice();
+    let failing = line.failing.as_slice();
+    match run_program(alloc, program, start, items, params, failing, line.budget) {
+        Ok(run) => append_run(out, number as u64, start, &run)?,
+        Err(RunError::Stuck { steps }) => append_stuck(out, number as u64, start, steps)?,
+        Err(RunError::NoStart) => return Err(TextRunFault::NoStart { line: number }),
+        Err(RunError::ParameterCount) => return Err(TextRunFault::ParameterCount { line: number }),
+        Err(RunError::Memory) => return Err(TextRunFault::Memory),
+    }
+    Ok(())
+}
+
+/// Appends the block of a run.
+fn append_run(out: &mut String, number: u64, start: &str, run: &Run) -> Result<(), AllocError> {
+    let events = run.events.as_slice();
+    let outcome = Some(&run.outcome);
+    let block = Block {
+        number,
+        start,
+        events,
+        outcome,
+        steps: Some(run.steps),
+    };
+    append_block(out, &block)
+}
+
+/// Appends the block of a run that is stuck.
+fn append_stuck(out: &mut String, number: u64, start: &str, steps: u64) -> Result<(), AllocError> {
+    let outcome = None;
+    let block = Block {
+        number,
+        start,
+        events: &[],
+        outcome,
+        steps: Some(steps),
+    };
+    append_block(out, &block)
+}
