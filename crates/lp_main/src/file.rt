@@ -1,6 +1,6 @@
 //! From the bytes of a grammar file to its grammar and states.
 
-ghost use Rattle.std.specs.Prelude.{IfErr};
+ghost use Rattle.std.specs.Prelude.{◌≡◌, IfErr};
 ghost use Rattle.lp_main.specs.Causes.{IsOfFile};
 
 use crate::status::Status;

@@ -1,5 +1,7 @@
 //! The runs of a parser text.
 
+ghost use Rattle.std.specs.Prelude.{◌≡◌};
+
 use lp_driver::RunError;
 use lp_plain::{Block, TokenLine, append_block};
 use lp_program::{Program, ReadFault, read_program};
