@@ -1,0 +1,31 @@
+//! From bytes to a plain grammar.
+
+use crate::error::{PlainError, place_of};
+use crate::top::parse_grammar;
+use lp_lower::PlainGrammar;
+use std::alloc::Global;
+use std::str;
+
+/// Why bytes spell no plain grammar.
+#[derive(Clone, Copy, Debug, PartialEq, Eq)]
+pub enum BytesFault {
+    /// They spell none. The place is that of the error, or the first byte of no character.
+    Grammar { place: usize },
+    Memory,
+}
+
+/// The plain grammar that bytes spell.
+pub fn plain_of(alloc: Global, bytes: &[u8]) -> Result<PlainGrammar, BytesFault> {
+    match str::from_utf8(bytes) {
+        Err(error) => Err(BytesFault::Grammar {
+            place: error.valid_up_to(),
+        }),
+        Ok(text) => match parse_grammar(alloc, text) {
+            Ok(plain) => Ok(plain),
+            Err(PlainError::Memory) => Err(BytesFault::Memory),
+            Err(PlainError::Parse(error)) => Err(BytesFault::Grammar {
+                place: place_of(&error),
+            }),
+        },
+    }
+}
