@@ -1,3 +1,4 @@
 pub mod Reductions
 pub mod GotoArms
 pub mod GotoAnswers
+pub mod Shifts

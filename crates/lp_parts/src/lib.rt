@@ -5,6 +5,7 @@
 pub mod comment;
 pub mod entries;
 pub mod filter;
+pub mod fits;
 pub mod gotos;
 pub mod machine_parameters;
 pub mod number_type;

@@ -1,0 +1,55 @@
+//! Why no text is emitted.
+
+use lp_program::TextPlace;
+use thiserror::Error;
+
+/// Why a text isn't emitted. The causes are looked for in this order; nothing was written but for
+/// a write fault, where a prefix of the text was.
+#[derive(Debug, Drop, Error)]
+pub enum EmitError {
+    /// The grammar has no start.
+    #[error("no start")]
+    NoStart,
+    /// The code of a test of all back ends is asked for.
+    #[error("unsupported")]
+    Unsupported,
+    /// A rule on grammars fails: the least such rule, and the least place where it does.
+    #[error("bad grammar")]
+    BadGrammar {
+        rule: u8,
+        place: usize,
+    },
+    /// Recursive ascent is asked for, and the error terminal is used.
+    #[error("recovery in ascent")]
+    RecoveryInAscent,
+    /// Recursive ascent is asked for, and two nonterminals have one escaped name: the least pair.
+    #[error("name clash")]
+    NameClash {
+        first: usize,
+        second: usize,
+    },
+    /// There are more states of a start, or more productions, than 2,147,483,647.
+    #[error("too many")]
+    TooMany {
+        count: usize,
+    },
+    /// A rule on tables fails: the least start, then state, then rule.
+    #[error("bad tables")]
+    BadTables {
+        start: usize,
+        state: usize,
+        rule: u8,
+    },
+    /// A text can't stand in a program: the first place, and the byte.
+    #[error("bad text")]
+    BadText {
+        place: TextPlace,
+        byte: usize,
+    },
+    /// The sink's count of faults rose.
+    #[error("write fault")]
+    WriteFault,
+    /// Memory was refused.
+    #[error("memory")]
+    Memory,
+}

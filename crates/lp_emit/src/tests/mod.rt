@@ -1,0 +1,4 @@
+//! Whole texts.
+
+mod grammars;
+mod one_rule;
