@@ -149,6 +149,9 @@ impl<'g> Machine<'g> {
     /// The events and the outcome after at most so many moves: `Spent` exactly where they were
     /// made and a move is still left.
     pub fn run(mut self, moves: u64) -> Result<MachineRun, RunError> {
+        if self.failed {
+            return Err(RunError::Memory);
+        }
         let (outcome, moves) = self.run_moves(moves)?;
         let Machine { input, config, .. } = self;
         let Config { calls, .. } = config;
