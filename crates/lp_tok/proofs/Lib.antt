@@ -4,5 +4,6 @@ pub mod CutSteps
 pub mod Found
 pub mod Readings
 pub mod Unescaped
+pub mod Orders
 pub mod OneList
 pub mod SeenSoFar

@@ -39,6 +39,9 @@ read_past_gaps from start (reading.Token at token stop after) passes read = (
   follows_follows from start stop passes.follows read.2,
   follows_follows from start after passes.follows read.3,
   omega (arith, passes.shorter, read.4),
+  read.5,
+  read.6,
+  read.7,
 )
 read_past_gaps from start (reading.Broken code at) passes read = (λ end. passes.tokens end _ (read.0 end), follows_follows from start at passes.follows read.1, omega (arith, passes.shorter, read.2))
 read_past_gaps from start reading.End passes read = λ end. passes.tokens end _ (read end)

@@ -11,6 +11,7 @@ pub mod Pieces
 pub mod WordPieces
 pub mod Tokens
 pub mod Found
+pub mod Spans
 pub mod Reads
 pub mod Escapes
 pub mod EscapeSteps

@@ -11,6 +11,11 @@ pub data Token : Type 0 where
   Symbol : Tok → Token
   Text : Texted → List ℕ → Token
 
+-- a token that has no text
+abbrev pub IsSymbol : Token → Type 0
+IsSymbol (Symbol token) = Unit {0}
+IsSymbol (Text kind text) = ⊥
+
 -- a token, with its text's bytes
 abbrev pub token_of : Tok → Token
 token_of (tok.Use t) = Text Use t.now

@@ -10,6 +10,7 @@ use Rattle.lp_tok.specs.Token.{Token, Text, Item}
 use Rattle.lp_tok.specs.Cut.{StopsAt, BreaksAt, IsUnclosed}
 use Rattle.lp_tok.specs.Pieces.{Gap, Whole, Attribute, Cut, Fault, Nothing, text_between}
 use Rattle.lp_tok.specs.WordPieces.{first_piece}
+use Rattle.lp_tok.specs.Spans.{InOrder}
 
 -- the byte at which what is left begins, in a text that ends at the byte `end`
 abbrev pub place : ℕ → List ℕ → ℕ
@@ -37,9 +38,11 @@ error_among known [] = known
 error_among known (Ok token ∷ items) = error_among known items
 error_among known (Err e ∷ items) = error_among (Some e) items
 
--- a text has exactly one list of tokens, and this is its error
+-- a text has exactly one list of tokens, and this is its error; the spans are in order, and each text
+-- stands inside its span
 pub record HasOneList (text : List ℕ) (shift : ℕ) (error : Option Error) : Type 0 where
   pub items : List Item
   pub fit : AreTokensOf text shift items
   pub no_other : (others : List Item) → AreTokensOf text shift others → others ≡ items
   pub error_is : error ≡ error_among None items
+  pub in_order : InOrder text shift shift items

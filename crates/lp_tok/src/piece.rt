@@ -1,12 +1,12 @@
 //! What stands at the front of a grammar file: symbols, texts in quotes, attributes and comments.
 #![tactic(auto, using(crate::proofs::Lefts::follows_follows, crate::proofs::Lefts::follows_itself))]
 
-ghost use Rattle.std.specs.Prelude.{◌≡◌, ◌≤◌, [], ◌∷◌, option_map, IfSome};
+ghost use Rattle.std.specs.Prelude.{◌≡◌, ◌≤◌, [], ◌∷◌, ◌++◌, option_map, IfSome};
 ghost use Rattle.lp_tok.specs.Left.{left, size, Follows, EndsIn};
 ghost use Rattle.lp_tok.specs.Signs.{apostrophe};
 ghost use Rattle.std.specs.Str.{chars};
 ghost use Rattle.lp_tok.specs.Scans.{past};
-ghost use Rattle.lp_tok.specs.Token.{token_of, Text};
+ghost use Rattle.lp_tok.specs.Token.{IsSymbol, token_of, Text};
 ghost use Rattle.lp_tok.specs.Words.{symbol, bracket};
 ghost use Rattle.lp_tok.specs.Pieces.{text_between, pair_piece, bang_piece, colon_piece, at_piece, arrow_at_piece, arrow_piece, equals_piece, quoted_piece, lifetime_or_word, lifetime_piece, attribute_end, hash_piece, comment_piece, slash_piece};
 ghost use Rattle.lp_tok.specs.Found.{piece_of, EndsAfter};
@@ -73,7 +73,8 @@ pub(crate) fn with_text<'a>(kind: Texted, text: &'a str) -> Tok<'a>
 pub(crate) fn before<'a>(from: Rest<'a>, to: Rest<'a>) -> &'a str
     requires follows { Follows from to }
     requires alone { from.behind.now ≡ [] }
-    ensures { result.now ≡ text_between (left from.entry) (left to.entry) }
+    ensures text { result.now ≡ text_between (left from.entry) (left to.entry) }
+    ensures bytes { from.entry.text.now ≡ result.now ++ to.entry.text.now }
 {
     front(from.text, to.text)
 }
@@ -81,7 +82,8 @@ pub(crate) fn before<'a>(from: Rest<'a>, to: Rest<'a>) -> &'a str
 /// A text without an end of it.
 fn front<'a>(text: &'a str, rest: &str) -> &'a str
     requires { EndsIn text.now rest.now }
-    ensures { result.now ≡ text_between (chars text.now) (chars rest.now) }
+    ensures text { result.now ≡ text_between (chars text.now) (chars rest.now) }
+    ensures bytes { text.now ≡ result.now ++ rest.now }
 {
     let (front, _) = text.split_at(place_in(text, rest));
     front
@@ -90,7 +92,8 @@ fn front<'a>(text: &'a str, rest: &str) -> &'a str
 /// The token that a character is, whatever follows it.
 #[tactic(auto, unfolding(crate::specs::Words::symbol))]
 pub(crate) fn symbol(c: char) -> Option<Tok<'static>>
-    ensures { option_map token_of result ≡ symbol c }
+    ensures value { option_map token_of result ≡ symbol c }
+    ensures symbol { IfSome result (λ t. IsSymbol (token_of t)) }
 {
     match c {
         '&' => Some(Tok::Ampersand),
@@ -107,7 +110,8 @@ pub(crate) fn symbol(c: char) -> Option<Tok<'static>>
 
 #[tactic(auto, unfolding(crate::specs::Words::bracket))]
 fn bracket(c: char) -> Option<Tok<'static>>
-    ensures { option_map token_of result ≡ bracket c }
+    ensures value { option_map token_of result ≡ bracket c }
+    ensures symbol { IfSome result (λ t. IsSymbol (token_of t)) }
 {
     match c {
         '{' => Some(Tok::LeftBrace),
@@ -127,6 +131,7 @@ pub(crate) fn pair_piece<'a>(
     second: char,
     token: Tok<'static>,
 ) -> Piece<'a>
+    requires { IsSymbol (token_of token) }
     ensures value { piece_of result
         ≡ pair_piece (left start.entry) (token_of token.entry) (past second (left next.entry)) }
     ensures ends { EndsAfter start.entry next.entry result }

@@ -119,6 +119,7 @@ pub(crate) fn raw_end<'a>(from: Rest<'a>, hashes: usize) -> Option<RawEnd<'a>>
     ensures value { option_map raw_ends result ≡ raw_end hashes (left from.entry) }
     ensures quote_follows { IfSome result (λ r. Follows from.entry r.quote) }
     ensures follows { IfSome result (λ r. Follows from.entry r.after) }
+    ensures quote_before { IfSome result (λ r. Follows r.quote r.after) }
     ensures shorter { IfSome result (λ r. size r.after ≤ size from.entry) }
 {
     let mut rest = from;

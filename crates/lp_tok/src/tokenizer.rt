@@ -1,7 +1,7 @@
 //! The tokens of a text, one at a time.
 #![tactic(auto, using(crate::proofs::Lefts::follows_follows, crate::proofs::Lefts::follows_itself, crate::proofs::Lefts::alone_follows))]
 
-ghost use Rattle.std.specs.Prelude.{◌≡◌, ◌+◌, ◌^◌, ◌<◌, ◌≤◌, ◌↔◌, List, [], ◌∷◌, length};
+ghost use Rattle.std.specs.Prelude.{◌≡◌, ◌+◌, ◌-◌, ◌^◌, ◌<◌, ◌≤◌, ◌↔◌, List, [], ◌∷◌, length};
 ghost use Rattle.std.specs.Str.{chars};
 ghost use Rattle.std.specs.Iterator.{at_most};
 ghost use Rattle.lp_tok.specs.Left.{left, size, Follows};
@@ -9,6 +9,7 @@ ghost use Rattle.lp_tok.specs.Token.{Item};
 ghost use Rattle.lp_tok.specs.Pieces.{Cut};
 ghost use Rattle.lp_tok.specs.WordPieces.{first_piece};
 ghost use Rattle.lp_tok.specs.Tokens.{place, AreTokensOf, HasOneList};
+ghost use Rattle.lp_tok.specs.Spans.{IsLeftOf, place_of};
 ghost use Rattle.lp_tok.specs.Reads.{IsReadFrom, TokensLeft, GivesNext};
 
 use crate::cut::{CutEnd, cut};
@@ -29,7 +30,9 @@ impl<'input> Tokenizer<'input> {
     /// plus `shift`.
     pub fn new(text: &'input str, shift: usize) -> Tokenizer<'input>
         requires { length text.now + shift < 2 ^ 64 }
-        ensures { (items : List Item) → TokensLeft result items ↔ AreTokensOf text.now shift items }
+        ensures tokens { (items : List Item) → TokensLeft result items ↔ AreTokensOf text.now shift items }
+        ensures whole { IsLeftOf text.now shift result }
+        ensures begins { place_of result ≡ shift }
     {
         Tokenizer {
             rest: text,
@@ -117,12 +120,14 @@ impl<'input> Iterator for Tokenizer<'input> {
 
 /// The byte at which what is left begins, in a text that ends at the byte `end`.
 pub(crate) fn place(end: usize, text: &str) -> usize
-    ensures { result ≡ place end (chars text.now) }
+    ensures value { result ≡ place end (chars text.now) }
+    ensures bytes { result ≡ end - length text.now }
 {
     end.saturating_sub(text.len())
 }
 
-/// The error of a text's tokens, if there is one. A text has exactly one list of tokens.
+/// The error of a text's tokens, if there is one. A text has exactly one list of tokens; their spans are
+/// in order, and each token's text stands inside its span.
 pub fn first_error(text: &str, shift: usize) -> Option<Error>
     requires { length text.now + shift < 2 ^ 64 }
     ensures { HasOneList text.now shift result }

@@ -1,10 +1,10 @@
 //! Words, keywords and regex literals, and the first piece of a grammar file.
 #![tactic(auto, using(crate::proofs::Lefts::follows_follows, crate::proofs::Lefts::follows_itself, crate::proofs::Lefts::alone_follows))]
 
-ghost use Rattle.std.specs.Prelude.{◌≡◌, ◌<◌, ◌≤◌, [], ◌∷◌, option_map};
+ghost use Rattle.std.specs.Prelude.{◌≡◌, ◌<◌, ◌≤◌, [], ◌∷◌, option_map, IfSome};
 ghost use Rattle.lp_tok.specs.Left.{left, size, Follows};
 ghost use Rattle.lp_tok.specs.Scans.{after_word};
-ghost use Rattle.lp_tok.specs.Token.{token_of};
+ghost use Rattle.lp_tok.specs.Token.{IsSymbol, token_of};
 ghost use Rattle.lp_tok.specs.Words.{keyword};
 ghost use Rattle.lp_tok.specs.Pieces.{text_between};
 ghost use Rattle.lp_tok.specs.WordPieces.{word_kind, plain_word, word_piece, regex_piece, r_piece, word_or_blank, opened_piece, longer_piece, first_piece};
@@ -225,7 +225,8 @@ fn word_kind(end: Rest<'_>) -> Texted
 /// The token of a keyword.
 #[tactic(auto, unfolding(crate::specs::Words::keyword))]
 fn keyword(word: &str) -> Option<Tok<'static>>
-    ensures { option_map token_of result ≡ keyword word.now }
+    ensures value { option_map token_of result ≡ keyword word.now }
+    ensures symbol { IfSome result (λ t. IsSymbol (token_of t)) }
 {
     match word {
         "enum" => Some(Tok::Enum),

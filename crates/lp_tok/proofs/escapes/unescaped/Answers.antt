@@ -21,7 +21,7 @@ returns-in-Broken-clause-faults c =
     let from_here = follows_follows _ _ _ inv.1 c.in-Broken.ensures.ends in (
       left c.in-Broken.at,
       fails_at _ _ _ _ _ _ _ inv.0 c.in-Some.ensures.first c.if-c-eq92.true c.in-Broken.ensures.value,
-      c.place.ensures ∙ ap (place c.args.end) (sym (left_alone c.in-Broken.at (alone_follows c.args.from c.in-Broken.at from_here c.requires))),
+      c.place.ensures.value ∙ ap (place c.args.end) (sym (left_alone c.in-Broken.at (alone_follows c.args.from c.in-Broken.at from_here c.requires))),
     )
 
 -- another character was read

@@ -10,4 +10,5 @@ returns-in-Some-raw_end-clause-ends c =
       omega (arith, c.requires.shorter, c.in-Some.ensures.shorter, c.in-Some-raw_end.ensures.shorter),
       follows_follows _ _ _ c.requires.begun inside,
       c.in-Some-raw_end.ensures.quote_follows,
+      c.in-Some-raw_end.ensures.quote_before,
     )
