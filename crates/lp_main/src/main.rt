@@ -1,17 +1,11 @@
 //! The program: a grammar file on standard input, its parser text and runs on standard output.
 #![tactic(auto)]
 
-mod command;
-mod file;
-mod generated;
-mod input;
-mod status;
-mod text_run;
-mod tool;
+#[cfg(test)]
+mod tests;
 
-use crate::status::{Status, status_line};
-use crate::tool::run_tool;
 use lp_repr::Text;
+use lp_tool::{Status, run_tool, status_line};
 use lp_write::{StdinSource, StdoutSink};
 use std::process::ExitCode;
 use std::rt::Env;

@@ -39,6 +39,19 @@ pub(crate) fn digit_run(text: &[u8]) -> usize
     text.len()
 }
 
+/// How long the names in front are that begin with the prefix, joined by `, `.
+pub(crate) fn own_run(prefix: &str, text: &str) -> usize {
+    let mut len = 0usize;
+    for name in text.split(", ") {
+        if !name.starts_with(prefix) || word_run(name.as_bytes()) != name.len() {
+            return len;
+        }
+        let comma = if len == 0 { 0 } else { 2 };
+        len = len.saturating_add(comma).saturating_add(name.len());
+    }
+    len
+}
+
 /// A number in decimal digits, with no 0 in front of others, that fits 64 bits.
 pub(crate) fn is_number(text: &str) -> bool {
     let bytes = text.as_bytes();

@@ -7,7 +7,7 @@ ghost use Rattle.lp_form.specs.declared.template.Slot.TheVariants.{Hole};
 ghost use Rattle.lp_program.specs.Lines.{part, TakesSlot, TakesParts};
 
 use crate::piece::Piece;
-use crate::read::fill::{digit_run, may_fill, visibility_len, word_run};
+use crate::read::fill::{digit_run, may_fill, own_run, visibility_len, word_run};
 use lp_form::template::Piece as LinePart;
 use lp_form::{Kind, Slot};
 use std::alloc::{AllocError, Global};
@@ -138,6 +138,7 @@ fn hole_len(
         Kind::Name | Kind::PlainName | Kind::Escaped => word_run(bytes),
         Kind::Number | Kind::NotOne => digit_run(bytes),
         Kind::Visibility => visibility_len(text),
+        Kind::Symbols => own_run(scope.prefix, text),
         Kind::Pattern | Kind::Patterns | Kind::Generics => {
             last_place(scope.prefix.as_bytes(), parts, bytes)
         }

@@ -1,7 +1,7 @@
 -- The exit status of a call, and its line.
 use Rattle.std.specs.Prelude.{ℕ, List, codes, []}
-use Rattle.lp_main.specs.declared.status.Status.{Status}
-use Rattle.lp_main.specs.declared.status.Status.TheVariants.{Done, Usage, Grammar, Conflict, TooManyStates, Refused, TokenLine, TooLong, ReadFault, WriteFault, Memory}
+use Rattle.lp_tool.specs.declared.status.Status.{Status}
+use Rattle.lp_tool.specs.declared.status.Status.TheVariants.{Done, Usage, Grammar, Conflict, TooManyStates, Refused, TokenLine, TooLong, ReadFault, WriteFault, Memory}
 
 abbrev pub number_of : Status → ℕ
 number_of Done = 0

@@ -1,8 +1,8 @@
 //! The tool: words and a source in, text and runs out.
 
 ghost use Rattle.std.specs.Prelude.{◌≡◌, ◌≢◌, IfErr, OnOk, None};
-ghost use Rattle.lp_main.specs.Command.{command_of};
-ghost use Rattle.lp_main.specs.Causes.{Causes, IsOfFile, IsOfWriting, IsStop, StopsReading, Wrote};
+ghost use Rattle.lp_tool.specs.Command.{command_of};
+ghost use Rattle.lp_tool.specs.Causes.{Causes, IsOfFile, IsOfWriting, IsStop, StopsReading, Wrote};
 
 use crate::command::{Command, read_words};
 use crate::file::{File, Stop, file_of};

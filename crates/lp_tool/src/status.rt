@@ -1,7 +1,7 @@
 //! How a call of the tool ends.
 
 ghost use Rattle.std.specs.Prelude.{◌≡◌};
-ghost use Rattle.lp_main.specs.Status.{line_of, number_of};
+ghost use Rattle.lp_tool.specs.Status.{line_of, number_of};
 
 use lp_emit::EmitError;
 use lp_repr::repr::Symbol;

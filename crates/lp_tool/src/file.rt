@@ -1,7 +1,7 @@
 //! From the bytes of a grammar file to its grammar and states.
 
 ghost use Rattle.std.specs.Prelude.{◌≡◌, IfErr};
-ghost use Rattle.lp_main.specs.Causes.{IsOfFile};
+ghost use Rattle.lp_tool.specs.Causes.{IsOfFile};
 
 use crate::status::Status;
 use lp_plain::{

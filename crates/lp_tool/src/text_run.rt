@@ -22,7 +22,7 @@ pub enum TextRunFault {
 }
 
 impl From<AllocError> for TextRunFault {
-    ghost use Rattle.lp_main.specs.declared.text_run.TextRunFault.TheVariants.{Memory};
+    ghost use Rattle.lp_tool.specs.declared.text_run.TextRunFault.TheVariants.{Memory};
 
     ghost from_gives = { λ _ e. e ≡ Memory };
 

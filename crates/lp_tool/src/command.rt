@@ -2,7 +2,7 @@
 
 ghost use Rattle.std.specs.Prelude.{◌≡◌, ◌<◌, nat_eq};
 ghost use Rattle.std.specs.Cmp.Lexicographic.{pointwise};
-ghost use Rattle.lp_main.specs.Command.{command_of, named_of, made_of, option_of, options_of, one_option_of, two_options_of, level_of, digit_of, one_digit, two_digits};
+ghost use Rattle.lp_tool.specs.Command.{command_of, named_of, made_of, option_of, options_of, one_option_of, two_options_of, level_of, digit_of, one_digit, two_digits};
 
 use lp_repr::Text;
 use lp_write::Options;

@@ -3,10 +3,10 @@ use Rattle.std.specs.Prelude.{ℕ, ◌+◌, ◌-◌, ◌*◌, Bool, true, false,
 use Rattle.std.specs.Option.{option_map, option_and_then}
 use Rattle.std.specs.Cmp.Lexicographic.{pointwise}
 use Rattle.lp_write.specs.declared.rust.Options.{Options}
-use Rattle.lp_main.specs.declared.command.Command.{Command}
-use Rattle.lp_main.specs.declared.command.Command.TheVariants.{Emit, Run, Make}
-use Rattle.lp_main.specs.declared.command.Look.{Look}
-use Rattle.lp_main.specs.declared.command.Look.TheVariants.{Comments, NoWhitespace}
+use Rattle.lp_tool.specs.declared.command.Command.{Command}
+use Rattle.lp_tool.specs.declared.command.Command.TheVariants.{Emit, Run, Make}
+use Rattle.lp_tool.specs.declared.command.Look.{Look}
+use Rattle.lp_tool.specs.declared.command.Look.TheVariants.{Comments, NoWhitespace}
 
 abbrev pub is_word : List ℕ → List ℕ → Bool
 is_word word name = pointwise nat_eq word name

@@ -1,7 +1,7 @@
 //! The generated grammar, emitted and run.
 
 ghost use Rattle.std.specs.Prelude.{IfErr};
-ghost use Rattle.lp_main.specs.Causes.{IsOfFile};
+ghost use Rattle.lp_tool.specs.Causes.{IsOfFile};
 
 use crate::file::{Stop, file_of};
 use crate::status::Status;

@@ -1,0 +1,15 @@
+//! The tool: from a grammar file to its parser text and the runs of that text.
+#![tactic(auto)]
+
+mod command;
+mod file;
+mod generated;
+mod input;
+mod status;
+mod text_run;
+mod tool;
+
+pub use command::{Command, read_words};
+pub use status::{Status, status_line};
+pub use text_run::{TextRunFault, run_text};
+pub use tool::{Report, run_tool};
