@@ -1,15 +1,21 @@
 //! Worked examples: grammar files, and what the tool answers and writes.
 
-use lp_repr::repr::{Symbol, TerminalString};
-use lp_repr::{Text, Token};
-use lp_tool::{Report, Status, run_tool};
+mod calls;
+mod refusals;
+
+use lp_repr::Text;
+use lp_tool::{Report, run_tool};
 use lp_write::{MemorySink, MemorySource};
 use std::alloc::Global;
 use std::process::Abort;
 use std::test::Fail;
 
 /// The answer to a call with these words and this file, and what it wrote.
-fn answer_of(alloc: Global, words: &[&str], file: &str) -> Result<(Report, Vec<u8>), Fail> {
+pub(crate) fn answer_of(
+    alloc: Global,
+    words: &[&str],
+    file: &str,
+) -> Result<(Report, Vec<u8>), Fail> {
     let mut given = Vec::new(alloc);
     for word in words {
         given.push(Text::from_str(alloc, word)?)?;
@@ -22,7 +28,12 @@ fn answer_of(alloc: Global, words: &[&str], file: &str) -> Result<(Report, Vec<u
 }
 
 /// What a run of this file writes has this part.
-fn writes(rt: &impl Abort, alloc: Global, file: &str, part: &str) -> Result<Report, Fail> {
+pub(crate) fn writes(
+    rt: &impl Abort,
+    alloc: Global,
+    file: &str,
+    part: &str,
+) -> Result<Report, Fail> {
     let (report, output) = answer_of(alloc, &["run"], file)?;
     assert_eq!(rt; report.status.number(), 0);
     match std::str::from_utf8(output.as_slice()) {
@@ -33,7 +44,7 @@ fn writes(rt: &impl Abort, alloc: Global, file: &str, part: &str) -> Result<Repo
 }
 
 /// A call with these words and this file answers this status, and writes nothing.
-fn refuses(
+pub(crate) fn refuses(
     rt: &impl Abort,
     alloc: Global,
     words: &[&str],
@@ -46,7 +57,8 @@ fn refuses(
     Ok(report)
 }
 
-const HEAD: &str =
+/// What most examples begin with.
+pub(crate) const HEAD: &str =
     "grammar;\nextern { type Location = usize; enum Tok { \"a\" => Tok::A, \"b\" => Tok::B, } }\n";
 
 #[test]
@@ -119,50 +131,6 @@ fn empty_rules(rt: HostRuntime) -> Result<(), Fail> {
     for (rules, want) in [(before, before_block), (alone, alone_block)] {
         let file = format!(in rt.alloc(); "{HEAD}{rules}")?;
         writes(&rt, rt.alloc(), file.as_str(), want)?;
-    }
-    Ok(())
-}
-
-#[test]
-fn refusals(rt: HostRuntime) -> Result<(), Fail> {
-    refuses(&rt, rt.alloc(), &["run", "--fast"], "grammar;\n", 1)?;
-    let report = refuses(&rt, rt.alloc(), &["run"], "grammar;\npub S () = ;", 2)?;
-    match report.status {
-        Status::Grammar { place } => assert_eq!(rt; place, 15),
-        _ => assert!(rt; false),
-    }
-    Ok(())
-}
-
-#[test]
-fn conflict_at_the_end(rt: HostRuntime) -> Result<(), Fail> {
-    let rules = "pub S: () = { \"a\" => (), A => () };\nA: () = \"a\" => ();\n";
-    let file = format!(in rt.alloc(); "{HEAD}{rules}")?;
-    let report = refuses(&rt, rt.alloc(), &["run"], file.as_str(), 3)?;
-    match report.status {
-        Status::Conflict { start, path, token } => {
-            assert_eq!(rt; start, 0);
-            assert!(rt; token == Token::Eof);
-            match path.as_slice() {
-                [Symbol::Terminal(TerminalString::Quoted(text))] => assert_eq!(rt;
-                    text.as_str(),
-                    "a"
-                ),
-                _ => assert!(rt; false),
-            }
-        }
-        _ => assert!(rt; false),
-    }
-    Ok(())
-}
-
-#[test]
-fn token_line_without_start(rt: HostRuntime) -> Result<(), Fail> {
-    let file = format!(in rt.alloc(); "{HEAD}pub S: () = \"a\" => ();\n%%\nT 200 -\n")?;
-    let report = refuses(&rt, rt.alloc(), &["run"], file.as_str(), 6)?;
-    match report.status {
-        Status::TokenLine { line } => assert_eq!(rt; line, 1),
-        _ => assert!(rt; false),
     }
     Ok(())
 }
