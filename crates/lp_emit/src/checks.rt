@@ -1,5 +1,6 @@
 //! The causes for which no text is emitted, in their order.
 
+use crate::clash::name_clash;
 use crate::errors::EmitError;
 use lp_program::check_texts::{TextFault, check_texts};
 use lp_repr::StartStates;
@@ -15,22 +16,42 @@ pub fn check(alloc: Global, grammar: &Grammar, states: &[StartStates]) -> Result
     if grammar.start_nonterminals.is_empty() {
         return Err(EmitError::NoStart);
     }
-    if grammar.algorithm.codegen != LrCodeGeneration::TableDriven {
+    if grammar.algorithm.codegen == LrCodeGeneration::TestAll {
         return Err(EmitError::Unsupported);
     }
-    match check_grammar(alloc, grammar) {
-        Ok(()) => {}
-        Err(GrammarFault::Rule { rule, place }) => {
-            return Err(EmitError::BadGrammar { rule, place });
-        }
-        Err(GrammarFault::Memory) => return Err(EmitError::Memory),
+    check_rules(alloc, grammar)?;
+    if grammar.algorithm.codegen == LrCodeGeneration::RecursiveAscent {
+        check_ascent(alloc, grammar)?;
     }
-    check_counts(grammar, states)?;
+    if grammar.algorithm.codegen == LrCodeGeneration::TableDriven {
+        check_counts(grammar, states)?;
+    }
     check_lists(alloc, grammar, states)?;
     match check_texts(alloc, grammar) {
         Ok(()) => Ok(()),
         Err(TextFault::Bad { place, byte }) => Err(EmitError::BadText { place, byte }),
         Err(TextFault::Memory) => Err(EmitError::Memory),
+    }
+}
+
+fn check_rules(alloc: Global, grammar: &Grammar) -> Result<(), EmitError> {
+    match check_grammar(alloc, grammar) {
+        Ok(()) => Ok(()),
+        Err(GrammarFault::Rule { rule, place }) => Err(EmitError::BadGrammar { rule, place }),
+        Err(GrammarFault::Memory) => Err(EmitError::Memory),
+    }
+}
+
+/// What recursive ascent can't do: recover from errors, and tell apart nonterminals whose names are
+/// escaped alike.
+fn check_ascent(alloc: Global, grammar: &Grammar) -> Result<(), EmitError> {
+    if grammar.uses_error_recovery {
+        return Err(EmitError::RecoveryInAscent);
+    }
+    match name_clash(alloc, grammar) {
+        Ok(None) => Ok(()),
+        Ok(Some((first, second))) => Err(EmitError::NameClash { first, second }),
+        Err(_) => Err(EmitError::Memory),
     }
 }
 

@@ -1,15 +1,20 @@
 //! The whole program.
 
+ghost use Rattle.std.specs.Prelude.{◌<◌, All};
+ghost use Rattle.std.specs.BTreeMap.{btree_map_len};
+ghost use Rattle.lp_parts.specs.Entries.{EntriesFit};
+
 use crate::action::action_functions;
 use crate::fits::first_unfit;
 use crate::intern_token;
 use crate::visibility::{visibility_of, widest_visibility};
+use lp_ascent::build_ascent_module;
 use lp_parts::texts::{TypeTexts, each_with_comma};
 use lp_program::build::{
     Triples, attribute, program, reexport, standard_uses, to_triple, use_line,
 };
 use lp_program::{Node, Piece, Program};
-use lp_repr::repr::Grammar;
+use lp_repr::repr::{Grammar, LrCodeGeneration};
 use lp_repr::{Lr1State, StartStates};
 use lp_table::build_table_module;
 use lp_table::pieces::{lent, lent_name, made, shown};
@@ -75,7 +80,23 @@ fn module<'t>(
     }
     match first_unfit(states) {
         Some(_) => Ok(None),
-        None => Ok(Some(build_table_module(alloc, grammar, start, states)?)),
+        None => Ok(Some(parse_module(alloc, grammar, start, states)?)),
+    }
+}
+
+/// The module of a start, by the back end that the grammar asks for.
+fn parse_module<'t>(
+    alloc: Global,
+    grammar: &'t Grammar,
+    start: usize,
+    states: &'t [Lr1State],
+) -> Result<Node<'t>, AllocError>
+    requires start { start < btree_map_len grammar.now.start_nonterminals }
+    requires entries { All EntriesFit states.now }
+{
+    match grammar.algorithm.codegen {
+        LrCodeGeneration::RecursiveAscent => build_ascent_module(alloc, grammar, start, states),
+        _ => build_table_module(alloc, grammar, start, states),
     }
 }
 
