@@ -1,5 +1,6 @@
 //! Worked examples: grammar files, and what the tool answers and writes.
 
+mod ascent;
 mod calls;
 mod refusals;
 

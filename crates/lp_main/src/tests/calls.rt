@@ -60,7 +60,7 @@ fn recovery(rt: HostRuntime) -> Result<(), Fail> {
     Ok(())
 }
 
-const CALCULATOR: &str = "#![allow(dead_code)]
+pub(crate) const CALCULATOR: &str = "#![allow(dead_code)]
 use crate::ast::Node;
 grammar(scale: i32);
 extern { type Location = usize; type Error = String; enum Tok {
@@ -73,7 +73,7 @@ Expr 500 - 1(6)@0-1 0@1-2 1(8)@2-3 2@3-4 1(2)@4-5
 Term 500 1 1(6)@0-1 2@1-2 1(0)@2-3
 ";
 
-const CALCULATED: &str = "
+pub(crate) const CALCULATED: &str = "
 ---
 run 1 Expr
 call 0 \"n * scale\" params [scale] args [\"6\"@0-1]
