@@ -80,19 +80,21 @@ part-more a b xs ys p =
       options = p.options;
     }
 
+-- nothing of lines was written
+pub none-part : (a : Writing) (xs : List Line) → AppendsPart a a xs
+none-part a xs = record {
+  whole = 0;
+  part = 0;
+  fits = omega arith;
+  short = omega arith;
+  took = took-none a.told;
+  indent = refl;
+  options = refl;
+}
+
 -- lines are a part of them and more
 pub all-part : (a b : Writing) (xs ys : List Line) → AppendsAll a b xs → AppendsPart a b (xs ++ ys)
-all-part a b xs ys p = part-then a b b xs ys p (part-none b ys) where
-  part-none : (w : Writing) (zs : List Line) → AppendsPart w w zs
-  part-none w zs = record {
-    whole = 0;
-    part = 0;
-    fits = omega arith;
-    short = omega arith;
-    took = took-none w.told;
-    indent = refl;
-    options = refl;
-  }
+all-part a b xs ys p = part-then a b b xs ys p (none-part b ys)
 
 -- a line that was broken off
 pub line-broke : (a b : Writing) (l : Line) → b.indent ≡ a.indent → b.options ≡ a.options →

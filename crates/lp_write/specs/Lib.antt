@@ -1,5 +1,9 @@
 pub mod Counting
+pub mod Headers
 pub mod Lines
 pub mod Memory
+pub mod Rows
 pub mod Sinks
+pub mod Texts
+pub mod Uses
 pub mod Writes
