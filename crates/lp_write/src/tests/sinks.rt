@@ -1,3 +1,5 @@
+ghost use Rattle.std.specs.Prelude.{◌<◌};
+
 use crate::{
     CountSink, Failed, MemorySink, MemorySource, Options, RustWrite, Sink, Source, StdinSource,
     StdoutSink,
