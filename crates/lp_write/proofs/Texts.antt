@@ -1,11 +1,11 @@
 -- Texts of the elements of a list, one after another.
-use Rattle.std.proofs.Common.{◌≡◌, ℕ, ◌+◌, ◌<◌, List, [], ◌∷◌, ◌++◌, length, get_or, take, map, sym, ap, ◌∙◌, refl, append_assoc, Option, Some, None, unwrap_or, codes}
+use Rattle.std.proofs.Common.{◌≡◌, ℕ, ◌+◌, ◌<◌, List, [], ◌∷◌, ◌++◌, length, get_or, take, map, sym, ap, ◌∙◌, refl, append_assoc, Option, Some, None, codes}
 use Rattle.std.specs.List.{AllZip}
 use Rattle.std.specs.Fmt.{signed_decimal}
 use Rattle.std.proofs.lemmas.List.{take_more, map-append}
 use Rattle.std.proofs.lemmas.Slice.Zip.{all_zipped_more}
 use Rattle.lp_write.specs.Texts.{IsShownAs}
-use Rattle.lp_write.specs.Rows.{IsEntryText, AreEntryTexts}
+use Rattle.lp_write.specs.Rows.{AreEntryTexts}
 use Rattle.std.specs.Prelude.{ℤ}
 
 -- the elements so far, and the next one

@@ -1,14 +1,14 @@
 -- One call that writes lines after another.
-use Rattle.std.proofs.Common.{◌≡◌, ℕ, ◌+◌, ◌-◌, ◌<◌, ◌≤◌, Bool, false, ◌==◌, List, [], ◌∷◌, ◌++◌, length, take, drop, Result, Ok, Err, OnOk, OnErr, refl, sym, ap, ◌∙◌, subst, arith, append_assoc, length-append, zero, suc, zero-add, suc-add, rules}
+use Rattle.std.proofs.Common.{◌≡◌, ℕ, ◌+◌, ◌-◌, ◌≤◌, Bool, false, ◌==◌, List, [], ◌∷◌, ◌++◌, length, take, drop, Result, Ok, Err, OnOk, OnErr, refl, sym, ap, ◌∙◌, arith, append_assoc, length-append, zero, suc}
 use Rattle.std.proofs.Math.Seq.{take-append-add, drop-append-add}
 use Rattle.std.proofs.lemmas.List.{take-append-le, drop-append-le}
-use Rattle.lp_write.specs.Sinks.{Told, Took, Rose, Broke}
+use Rattle.lp_write.specs.Sinks.{Took, Broke}
 use Rattle.lp_write.specs.Lines.{Line, lowered, indented, line_bytes, lines_bytes, next_bytes, indent_after, indent_after_all}
 use Rattle.lp_write.specs.Lines.Line.{line, verbatim}
 use Rattle.lp_write.specs.Writes.{Writing, ending, AppendsAll, AppendsPart, Faults, Writes, Ending}
 use Rattle.lp_write.specs.Writes.Ending.{complete, faulted, wanting}
 use Rattle.lp_write.specs.declared.sinks.Failed.{Failed}
-use Rattle.lp_write.proofs.Sinking.{append-none, took-none, took-then, broke-then, rose-last, rose-first}
+use Rattle.lp_write.proofs.Sinking.{append-none, took-none, took-then, rose-last}
 
 -- the indent after lines and more lines
 pub indent-append : (n : ℕ) (xs ys : List Line) → indent_after_all n (xs ++ ys) ≡ indent_after_all (indent_after_all n xs) ys

@@ -4,6 +4,7 @@ pub mod Lines
 pub mod Memory
 pub mod Rows
 pub mod Sinks
+pub mod Standard
 pub mod Texts
 pub mod Uses
 pub mod Writes

@@ -1,5 +1,5 @@
 -- A source and a sink in memory: what they hold, and how a read and a write go on.
-use Rattle.std.specs.Prelude.{ℕ, ◌-◌, Bool, ◌||◌, ◌&&◌, ◌==◌, nat_lt, List, ◌++◌, length, take, drop, min, Option, Some}
+use Rattle.std.specs.Prelude.{ℕ, ◌-◌, Bool, ◌||◌, ◌&&◌, ◌==◌, nat_lt, List, ◌++◌, length, take, drop, min, Some}
 use Rattle.std.specs.List.{list_any}
 use Rattle.lp_write.specs.Sinks.{Told, counted}
 use Rattle.lp_write.specs.declared.memory.MemorySink.{MemorySink}

@@ -1,5 +1,5 @@
 -- The lines of a table row.
-use Rattle.std.specs.Prelude.{◌≡◌, ℕ, ℤ, Bool, if◌then◌else◌, List, [], ◌∷◌, ◌++◌, Option, codes}
+use Rattle.std.specs.Prelude.{◌≡◌, ℕ, ℤ, Bool, if◌then◌else◌, List, [], ◌++◌, Option, codes}
 use Rattle.std.specs.List.{AllZip, join_by}
 use Rattle.std.specs.Fmt.{signed_decimal}
 use Rattle.lp_write.specs.Texts.{IsShownAs}

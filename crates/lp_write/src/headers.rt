@@ -27,7 +27,7 @@ pub struct HeaderTexts {
 }
 
 /// The header of a function, up to and without the `{` of its body. It is made of a name, and lists
-/// are added to it.
+/// are added to it. A call that finds no memory for them lets the header go with nothing written.
 #[derive(Drop)]
 pub struct FnHeader<'me, W, T = HeaderTexts> {
     write: &'me mut RustWrite<W>,
