@@ -1,9 +1,9 @@
 -- A loop that writes a line for each element of a list.
-use Rattle.std.proofs.Common.{◌≡◌, ℕ, ◌+◌, ◌<◌, ◌≤◌, List, [], ◌∷◌, ◌++◌, length, map, get_or, take, drop, refl, sym, ap, ◌∙◌}
+use Rattle.std.proofs.Common.{◌≡◌, ℕ, ◌+◌, ◌<◌, List, [], ◌∷◌, ◌++◌, length, map, get_or, take, drop, sym, ap, ◌∙◌}
 use Rattle.std.proofs.lemmas.List.{take_more, map-append, take-append-drop}
 use Rattle.lp_write.specs.Lines.{Line}
 use Rattle.lp_write.specs.Writes.{Writing, AppendsAll, AppendsPart, Faults}
-use Rattle.lp_write.proofs.Writing.{all-then, all-part, part-then, part-more, writes-then, faults-more}
+use Rattle.lp_write.proofs.Writing.{all-then, all-part, writes-then, faults-more}
 use Rattle.lp_write.specs.Writes.Ending.{faulted}
 
 -- the lines so far, and the next one

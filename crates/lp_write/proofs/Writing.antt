@@ -1,14 +1,14 @@
 -- One call that writes lines after another.
-use Rattle.std.proofs.Common.{◌≡◌, ℕ, ◌+◌, ◌-◌, ◌<◌, ◌≤◌, Bool, false, ◌==◌, List, [], ◌∷◌, ◌++◌, length, take, drop, Result, Ok, Err, OnOk, OnErr, refl, sym, ap, ◌∙◌, subst, arith, append_assoc, length-append, zero, suc, zero-add, suc-add, rules}
+use Rattle.std.proofs.Common.{◌≡◌, ℕ, ◌+◌, ◌-◌, ◌≤◌, Bool, false, ◌==◌, List, [], ◌∷◌, ◌++◌, length, take, drop, Result, Ok, Err, OnOk, OnErr, refl, sym, ap, ◌∙◌, arith, append_assoc, length-append, zero, suc}
 use Rattle.std.proofs.Math.Seq.{take-append-add, drop-append-add}
 use Rattle.std.proofs.lemmas.List.{take-append-le, drop-append-le}
-use Rattle.lp_write.specs.Sinks.{Told, Took, Rose, Broke}
+use Rattle.lp_write.specs.Sinks.{Took, Broke}
 use Rattle.lp_write.specs.Lines.{Line, lowered, indented, line_bytes, lines_bytes, next_bytes, indent_after, indent_after_all}
 use Rattle.lp_write.specs.Lines.Line.{line, verbatim}
 use Rattle.lp_write.specs.Writes.{Writing, ending, AppendsAll, AppendsPart, Faults, Writes, Ending}
 use Rattle.lp_write.specs.Writes.Ending.{complete, faulted, wanting}
 use Rattle.lp_write.specs.declared.sinks.Failed.{Failed}
-use Rattle.lp_write.proofs.Sinking.{append-none, took-none, took-then, broke-then, rose-last, rose-first}
+use Rattle.lp_write.proofs.Sinking.{append-none, took-none, took-then, rose-last}
 
 -- the indent after lines and more lines
 pub indent-append : (n : ℕ) (xs ys : List Line) → indent_after_all n (xs ++ ys) ≡ indent_after_all (indent_after_all n xs) ys
@@ -80,19 +80,21 @@ part-more a b xs ys p =
       options = p.options;
     }
 
+-- nothing of lines was written
+pub none-part : (a : Writing) (xs : List Line) → AppendsPart a a xs
+none-part a xs = record {
+  whole = 0;
+  part = 0;
+  fits = omega arith;
+  short = omega arith;
+  took = took-none a.told;
+  indent = refl;
+  options = refl;
+}
+
 -- lines are a part of them and more
 pub all-part : (a b : Writing) (xs ys : List Line) → AppendsAll a b xs → AppendsPart a b (xs ++ ys)
-all-part a b xs ys p = part-then a b b xs ys p (part-none b ys) where
-  part-none : (w : Writing) (zs : List Line) → AppendsPart w w zs
-  part-none w zs = record {
-    whole = 0;
-    part = 0;
-    fits = omega arith;
-    short = omega arith;
-    took = took-none w.told;
-    indent = refl;
-    options = refl;
-  }
+all-part a b xs ys p = part-then a b b xs ys p (none-part b ys)
 
 -- a line that was broken off
 pub line-broke : (a b : Writing) (l : Line) → b.indent ≡ a.indent → b.options ≡ a.options →

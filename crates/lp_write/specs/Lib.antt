@@ -1,5 +1,10 @@
 pub mod Counting
+pub mod Headers
 pub mod Lines
 pub mod Memory
+pub mod Rows
 pub mod Sinks
+pub mod Standard
+pub mod Texts
+pub mod Uses
 pub mod Writes

@@ -1,8 +1,9 @@
--- A sink in memory: what it holds, and how a write goes on.
-use Rattle.std.specs.Prelude.{ℕ, ◌-◌, Bool, ◌||◌, ◌&&◌, ◌==◌, nat_lt, List, ◌++◌, length, take, min, Option, Some}
+-- A source and a sink in memory: what they hold, and how a read and a write go on.
+use Rattle.std.specs.Prelude.{ℕ, ◌-◌, Bool, ◌||◌, ◌&&◌, ◌==◌, nat_lt, List, ◌++◌, length, take, drop, min, Some}
 use Rattle.std.specs.List.{list_any}
 use Rattle.lp_write.specs.Sinks.{Told, counted}
 use Rattle.lp_write.specs.declared.memory.MemorySink.{MemorySink}
+use Rattle.lp_write.specs.declared.memory.MemorySource.{MemorySource}
 
 -- the bytes held, the room left, the most that a write takes, the numbers of the writes that fail,
 -- the number of the next write, and how many failed
@@ -52,3 +53,34 @@ after_write s piece = record s {
 -- after a write that failed
 abbrev pub after_fault : Holding → Holding
 after_fault s = record s { writes = counted s.writes; faults = counted s.faults }
+
+-- the bytes left, the most that a read gives, the numbers of the reads that fail, the number of the
+-- next read, and how many failed
+pub record Giving : Type 0 where
+  pub left : List ℕ
+  pub most : ℕ
+  pub failing : List ℕ
+  pub reads : ℕ
+  pub faults : ℕ
+
+-- what a source in memory has to give
+abbrev pub giving : MemorySource → Giving
+giving s = record {
+  left = drop s.given s.bytes.items;
+  most = s.most;
+  failing = s.failing.items;
+  reads = s.reads;
+  faults = s.faults;
+}
+
+-- how many bytes a read into a buffer of this length gives
+abbrev pub gives : Giving → ℕ → ℕ
+gives s room = min (min room s.most) (length s.left)
+
+-- after a read that gave bytes
+abbrev pub after_read : Giving → ℕ → Giving
+after_read s room = record s { left = drop (gives s room) s.left; reads = counted s.reads }
+
+-- after a read that failed
+abbrev pub after_failed_read : Giving → Giving
+after_failed_read s = record s { reads = counted s.reads; faults = counted s.faults }

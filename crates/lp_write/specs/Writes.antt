@@ -1,5 +1,5 @@
 -- What a call that writes lines appends, and where it stands when it stops early.
-use Rattle.std.specs.Prelude.{◌≡◌, ℕ, ◌-◌, ◌≤◌, Bool, List, ◌++◌, length, take, drop, Result, Ok, Err}
+use Rattle.std.specs.Prelude.{◌≡◌, ℕ, ◌-◌, ◌≤◌, List, ◌++◌, length, take, drop, Result, Ok, Err}
 use Rattle.lp_write.specs.Sinks.{Told, Took, Rose}
 use Rattle.lp_write.specs.Lines.{Line, lines_bytes, next_bytes, indent_after_all}
 use Rattle.lp_write.specs.declared.rust.RustWrite.{RustWrite}

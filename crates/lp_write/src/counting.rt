@@ -1,7 +1,7 @@
 //! A sink that counts.
 
-ghost use Rattle.std.specs.Prelude.{◌≡◌, ℕ, ◌+◌, ◌<◌, ◌≤◌, Some, None, Ok, length, min};
-ghost use Rattle.lp_write.specs.Sinks.{greatest};
+ghost use Rattle.std.specs.Prelude.{◌≡◌, ℕ, ◌+◌, ◌<◌, ◌≤◌, None, Ok, IfOk, OnErr, length, take, min};
+ghost use Rattle.lp_write.specs.Sinks.{greatest, Took, Refused};
 
 use crate::sinks::{Failed, Sink};
 use std::marker::Model;
@@ -47,13 +47,19 @@ impl Default for CountSink {
 }
 
 impl Sink for CountSink {
-    ghost use Rattle.std.specs.Prelude.{None};
-    ghost use Rattle.lp_write.specs.Counting.{number};
+    ghost use Rattle.lp_write.specs.Counting.{told_of};
 
-    ghost told = { λ s. record { held = None; taken = number s; faults = 0 } };
+    ghost told = { λ s. told_of s };
 
     /// Takes the whole piece.
-    fn write(&mut self, piece: &[u8]) -> Result<usize, Failed> {
+    fn write(&mut self, piece: &[u8]) -> Result<usize, Failed>
+        ensures within { IfOk result (λ n. n ≤ length piece.now) }
+        ensures moves { IfOk result (λ n. 0 < length piece.now → 0 < n) }
+        ensures took { IfOk result (λ n. Took (told_of self.old) (told_of self.new) (take n piece.now)) }
+        ensures refused { OnErr result (Refused (told_of self.old) (told_of self.new)) }
+        ensures whole { result ≡ Ok (length piece.now) }
+        ensures total { self.new ≡ min (self.old + length piece.now) greatest }
+    {
         self.total = self.total.saturating_add(piece.len() as u64);
         Ok(piece.len())
     }

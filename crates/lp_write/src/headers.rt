@@ -1,9 +1,15 @@
 //! Headers of functions.
 
-ghost use Rattle.std.specs.Prelude.{◌≡◌, ℕ, ◌+◌, ◌-◌, ◌<◌, ◌≤◌, length};
+ghost use Rattle.std.specs.Prelude.{◌≡◌, ℕ, List, [], ◌∷◌, ◌++◌, map, IfOk, OnOk, OnErr, Some, string_bytes, codes};
+ghost use Rattle.std.specs.List.{AllZip};
+ghost use Rattle.lp_write.specs.Headers.{header, header_under, writer_of, empty_header, listed, opening, closing, where_lines, parameter_lines, header_lines, AddsGrammar};
+ghost use Rattle.lp_write.specs.Lines.Line.{line};
+ghost use Rattle.lp_write.specs.Texts.{IsShownAs, AreShownAs};
+ghost use Rattle.lp_write.specs.Writes.{writing, Writes, write_ending};
 
 use crate::rust::{RustWrite, WriteError};
 use crate::sinks::Sink;
+use lp_repr::Text;
 use lp_repr::parse_tree::Visibility;
 use lp_repr::repr::{Grammar, Parameter};
 use std::alloc::{AllocError, Global};
@@ -13,15 +19,15 @@ use std::fmt::Display;
 #[derive(Drop)]
 pub struct HeaderTexts {
     alloc: Global,
-    name: String,
-    type_parameters: Vec<String>,
-    parameters: Vec<String>,
-    return_type: Option<String>,
-    where_clauses: Vec<String>,
+    name: Text,
+    type_parameters: Vec<Text>,
+    parameters: Vec<Text>,
+    return_type: Option<Text>,
+    where_clauses: Vec<Text>,
 }
 
 /// The header of a function, up to and without the `{` of its body. It is made of a name, and lists
-/// are added to it.
+/// are added to it. A call that finds no memory for them lets the header go with nothing written.
 #[derive(Drop)]
 pub struct FnHeader<'me, W, T = HeaderTexts> {
     write: &'me mut RustWrite<W>,
@@ -36,13 +42,17 @@ impl<'me, W: Sink> FnHeader<'me, W> {
         write: &'me mut RustWrite<W>,
         visibility: &'me Visibility,
         name: String,
-    ) -> Self {
+    ) -> Self
+        ensures same_reference { (writer_of result).ghost_name ≡ write.entry.ghost_name }
+        ensures same_writer { (writer_of result).now ≡ write.old }
+        ensures header { header result ≡ empty_header visibility.now (string_bytes name) }
+    {
         FnHeader {
             write,
             visibility,
             texts: HeaderTexts {
                 alloc,
-                name,
+                name: Text(name),
                 type_parameters: Vec::new(alloc),
                 parameters: Vec::new(alloc),
                 return_type: None,
@@ -52,21 +62,33 @@ impl<'me, W: Sink> FnHeader<'me, W> {
     }
 
     /// Adds the type parameters, the where clauses and the parameters of the grammar.
-    pub fn with_grammar(self, grammar: &Grammar) -> Result<Self, AllocError> {
+    pub fn with_grammar(self, grammar: &Grammar) -> Result<Self, AllocError>
+        ensures same_reference { IfOk result (λ h. (writer_of h).ghost_name ≡ (writer_of self.entry).ghost_name) }
+        ensures same_writer { IfOk result (λ h. (writer_of h).now ≡ (writer_of self.entry).now) }
+        ensures added { IfOk result (AddsGrammar ⟦<lp_repr::repr::WhereClause as Display>⟧.output ⟦<Parameter as ParameterDisplay>⟧.IsParameterText grammar.now (header self.entry)) }
+    {
         self.with_type_parameters(grammar.type_parameters.as_slice())?
             .with_where_clauses(grammar.where_clauses.as_slice())?
             .with_parameters(grammar.parameters.as_slice())
     }
 
     /// Adds type parameters; lifetimes have to come first.
-    pub fn with_type_parameters<T: Display>(mut self, tps: &[T]) -> Result<Self, AllocError> {
-        add_shown(self.texts.alloc, &mut self.texts.type_parameters, tps)?;
+    pub fn with_type_parameters<T: Display>(mut self, tps: &[T]) -> Result<Self, AllocError>
+        ensures same_reference { IfOk result (λ h. (writer_of h).ghost_name ≡ (writer_of self.entry).ghost_name) }
+        ensures same_writer { IfOk result (λ h. (writer_of h).now ≡ (writer_of self.entry).now) }
+        ensures added { IfOk result (λ h. (texts : List (List ℕ)) × AreShownAs T.output tps.now texts × (header h ≡ record (header self.entry) { type_parameters = (header self.entry).type_parameters ++ texts })) }
+    {
+        push_shown(self.texts.alloc, &mut self.texts.type_parameters, tps)?;
         Ok(self)
     }
 
     /// Adds where clauses.
-    pub fn with_where_clauses<T: Display>(mut self, wcs: &[T]) -> Result<Self, AllocError> {
-        add_shown(self.texts.alloc, &mut self.texts.where_clauses, wcs)?;
+    pub fn with_where_clauses<T: Display>(mut self, wcs: &[T]) -> Result<Self, AllocError>
+        ensures same_reference { IfOk result (λ h. (writer_of h).ghost_name ≡ (writer_of self.entry).ghost_name) }
+        ensures same_writer { IfOk result (λ h. (writer_of h).now ≡ (writer_of self.entry).now) }
+        ensures added { IfOk result (λ h. (texts : List (List ℕ)) × AreShownAs T.output wcs.now texts × (header h ≡ record (header self.entry) { where_clauses = (header self.entry).where_clauses ++ texts })) }
+    {
+        push_shown(self.texts.alloc, &mut self.texts.where_clauses, wcs)?;
         Ok(self)
     }
 
@@ -74,87 +96,163 @@ impl<'me, W: Sink> FnHeader<'me, W> {
     pub fn with_parameters<P: ParameterDisplay>(
         mut self,
         parameters: &[P],
-    ) -> Result<Self, AllocError> {
-        for parameter in parameters {
-            let text = parameter.to_parameter_string(self.texts.alloc)?;
-            self.texts.parameters.push(text)?;
-        }
+    ) -> Result<Self, AllocError>
+        ensures same_reference { IfOk result (λ h. (writer_of h).ghost_name ≡ (writer_of self.entry).ghost_name) }
+        ensures same_writer { IfOk result (λ h. (writer_of h).now ≡ (writer_of self.entry).now) }
+        ensures added { IfOk result (λ h. (texts : List (List ℕ)) × AllZip P.IsParameterText parameters.now texts × (header h ≡ record (header self.entry) { parameters = (header self.entry).parameters ++ texts })) }
+    {
+        push_parameters(self.texts.alloc, &mut self.texts.parameters, parameters)?;
         Ok(self)
     }
 
     /// Sets the type that the function answers.
-    pub fn with_return_type<R: Display>(mut self, rt: &R) -> Result<Self, AllocError> {
+    pub fn with_return_type<R: Display>(mut self, rt: &R) -> Result<Self, AllocError>
+        ensures same_reference { IfOk result (λ h. (writer_of h).ghost_name ≡ (writer_of self.entry).ghost_name) }
+        ensures same_writer { IfOk result (λ h. (writer_of h).now ≡ (writer_of self.entry).now) }
+        ensures set { IfOk result (λ h. (text : List ℕ) × IsShownAs (R.output rt.now) text × (header h ≡ record (header self.entry) { return_type = Some text })) }
+    {
         let texts = &mut self.texts;
-        texts.return_type = Some(rt.to_string(texts.alloc)?);
+        texts.return_type = Some(Text(rt.to_string(texts.alloc)?));
         Ok(self)
     }
 
     /// Appends the header.
-    pub fn emit(self) -> Result<(), WriteError> {
-        let lines = header_lines(self.visibility, &self.texts)?;
-        self.write.lines(lines.as_slice())?;
-        Ok(())
+    pub fn emit(self) -> Result<(), WriteError>
+        ensures { Writes (write_ending result) (writing W.told (writer_of self.entry).now) (writing W.told self.exit.0.now) (map line (header_lines (header self.entry))) }
+    {
+        let FnHeader {
+            write,
+            visibility,
+            texts,
+        } = self;
+        write.write_lines(header_lines(visibility, &texts))
     }
 }
 
-fn add_shown<T: Display>(
+/// Adds the texts that values are shown as.
+fn push_shown<T: Display>(
     alloc: Global,
-    texts: &mut Vec<String>,
+    texts: &mut Vec<Text>,
     shown: &[T],
-) -> Result<(), AllocError> {
+) -> Result<(), AllocError>
+    ensures { OnOk result ((added : List (List ℕ)) × AreShownAs T.output shown.now added × (texts.new.items ≡ texts.old.items ++ added)) }
+{
     for x in shown {
-        texts.push(x.to_string(alloc)?)?;
+        texts.push(Text(x.to_string(alloc)?))?;
+    }
+    Ok(())
+}
+
+/// Adds the texts of parameters.
+fn push_parameters<P: ParameterDisplay>(
+    alloc: Global,
+    texts: &mut Vec<Text>,
+    parameters: &[P],
+) -> Result<(), AllocError>
+    ensures { OnOk result ((added : List (List ℕ)) × AllZip P.IsParameterText parameters.now added × (texts.new.items ≡ texts.old.items ++ added)) }
+{
+    for parameter in parameters {
+        texts.push(Text(parameter.to_parameter_string(alloc)?))?;
     }
     Ok(())
 }
 
 /// The lines of a header.
-fn header_lines(visibility: &Visibility, texts: &HeaderTexts) -> Result<Vec<String>, AllocError> {
+fn header_lines(visibility: &Visibility, texts: &HeaderTexts) -> Result<Vec<Text>, AllocError>
+    ensures { IfOk result (λ lines. lines.items ≡ header_lines (header_under visibility.now texts.now)) }
+{
     let alloc = texts.alloc;
-    let mut lines = Vec::new(alloc);
-    let name = &texts.name;
-    lines.push(format!(in alloc; "{visibility}fn {name}<")?)?;
-    for text in &texts.type_parameters {
-        lines.push(format!(in alloc; "    {text},")?)?;
-    }
-    lines.push(String::from_str(alloc, ">(")?)?;
-    for text in &texts.parameters {
-        lines.push(format!(in alloc; "{text},")?)?;
-    }
-    lines.push(last_line(texts)?)?;
-    if texts.where_clauses.len() > 0 {
-        lines.push(String::from_str(alloc, "where")?)?;
-        for text in &texts.where_clauses {
-            lines.push(format!(in alloc; "    {text},")?)?;
-        }
-    }
+    let mut lines = parameter_lines(visibility, texts)?;
+    lines.push(closing(alloc, &texts.return_type)?)?;
+    push_where(alloc, &mut lines, texts.where_clauses.as_slice())?;
     Ok(lines)
 }
 
-/// The line that closes the parameters.
-fn last_line(texts: &HeaderTexts) -> Result<String, AllocError> {
-    match &texts.return_type {
-        Some(text) if text.as_str() != "()" => format!(in texts.alloc; ") -> {text}"),
-        _ => String::from_str(texts.alloc, ")"),
+/// The lines up to the parameters.
+fn parameter_lines(visibility: &Visibility, texts: &HeaderTexts) -> Result<Vec<Text>, AllocError>
+    ensures { IfOk result (λ lines. lines.items ≡ parameter_lines (header_under visibility.now texts.now)) }
+{
+    let alloc = texts.alloc;
+    let mut lines = Vec::new(alloc);
+    lines.push(opening(alloc, visibility, &texts.name)?)?;
+    push_listed(alloc, &mut lines, "    ", texts.type_parameters.as_slice())?;
+    lines.push(Text::from_str(alloc, ">(")?)?;
+    push_listed(alloc, &mut lines, "", texts.parameters.as_slice())?;
+    Ok(lines)
+}
+
+/// The line with the name.
+fn opening(alloc: Global, visibility: &Visibility, name: &Text) -> Result<Text, AllocError>
+    ensures { IfOk result (λ text. text ≡ opening visibility.now name.now) }
+{
+    Ok(Text(format!(in alloc; "{visibility}fn {name}<")?))
+}
+
+/// A line per text, after a front and with a `,`.
+fn push_listed(
+    alloc: Global,
+    lines: &mut Vec<Text>,
+    front: &str,
+    texts: &[Text],
+) -> Result<(), AllocError>
+    ensures { OnOk result (lines.new.items ≡ lines.old.items ++ map (listed front.now) texts.now) }
+{
+    for text in texts {
+        lines.push(Text(format!(in alloc; "{front}{text},")?))?;
     }
+    Ok(())
+}
+
+/// The line that closes the parameters.
+fn closing(alloc: Global, return_type: &Option<Text>) -> Result<Text, AllocError>
+    ensures { IfOk result (λ text. text ≡ closing return_type.now) }
+{
+    match return_type {
+        Some(text) if text.as_str() != "()" => Ok(Text(format!(in alloc; ") -> {text}")?)),
+        _ => Text::from_str(alloc, ")"),
+    }
+}
+
+/// The lines of where clauses.
+fn push_where(alloc: Global, lines: &mut Vec<Text>, clauses: &[Text]) -> Result<(), AllocError>
+    ensures { OnOk result (lines.new.items ≡ lines.old.items ++ where_lines clauses.now) }
+{
+    if clauses.is_empty() {
+        return Ok(());
+    }
+    lines.push(Text::from_str(alloc, "where")?)?;
+    push_listed(alloc, lines, "    ", clauses)
 }
 
 /// What can stand as a parameter of a function.
 pub trait ParameterDisplay {
-    fn to_parameter_string(&self, alloc: Global) -> Result<String, AllocError>;
+    /// A text that it may stand as.
+    ghost IsParameterText: { Self → List ℕ → Type 0 };
+
+    fn to_parameter_string(&self, alloc: Global) -> Result<String, AllocError>
+        ensures { IfOk result (λ text. IsParameterText self.now (string_bytes text)) };
 }
 
 /// The text itself, as `name: type`.
 impl ParameterDisplay for String {
+    ghost IsParameterText = { λ s text. text ≡ string_bytes s };
+
     fn to_parameter_string(&self, alloc: Global) -> Result<String, AllocError> {
         String::from_str(alloc, self.as_str())
     }
 }
 
 impl ParameterDisplay for Parameter {
+    ghost IsParameterText = { λ p text. (ty : List ℕ) × IsShownAs (⟦<lp_repr::repr::TypeRepr as Display>⟧.output p.ty) ty × (text ≡ p.name ++ (codes ": " ++ ty)) };
+
     fn to_parameter_string(&self, alloc: Global) -> Result<String, AllocError> {
-        let name = &self.name;
-        let ty = &self.ty;
-        format!(in alloc; "{name}: {ty}")
+        let ty = self.ty.to_string(alloc)?;
+        parameter_string(alloc, &self.name, &ty)
     }
+}
+
+fn parameter_string(alloc: Global, name: &Text, ty: &String) -> Result<String, AllocError>
+    ensures { IfOk result (λ text. string_bytes text ≡ name.now ++ (codes ": " ++ string_bytes ty.now)) }
+{
+    format!(in alloc; "{name}: {ty}")
 }

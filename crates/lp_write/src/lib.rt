@@ -4,10 +4,14 @@
 pub mod counting;
 pub mod headers;
 pub mod memory;
+mod rows;
 pub mod rust;
 pub mod sinks;
 pub mod sources;
 pub mod standard;
+#[cfg(test)]
+mod tests;
+mod uses;
 pub mod util;
 
 pub use counting::CountSink;

@@ -1,7 +1,7 @@
 //! Sources and sinks in memory, with reads and writes that fail as listed.
 
 ghost use Rattle.std.specs.Prelude.{◌≡◌, ℕ, ◌+◌, ◌-◌, ◌<◌, ◌≤◌, List, [], ◌++◌, length, take, drop, IfOk, OnOk, OnErr, is_err, Option, Some, min, vec_len, vec_capacity};
-ghost use Rattle.lp_write.specs.Sinks.{Took, Refused};
+ghost use Rattle.lp_write.specs.Sinks.{Took, Refused, Rose, preceded};
 
 use crate::sinks::{Failed, Sink, rest};
 use crate::sources::Source;
@@ -24,8 +24,11 @@ pub struct MemorySource {
 }
 
 impl MemorySource {
+    ghost use Rattle.lp_write.specs.Memory.{giving, is_listed};
+
     pub fn new(bytes: Vec<u8>, most: usize, failing: Vec<u64>) -> MemorySource
         requires { 0 < most }
+        ensures { giving result ≡ record { left = bytes.items; most = most; failing = failing.items; reads = 0; faults = 0 } }
     {
         MemorySource {
             bytes,
@@ -37,17 +40,38 @@ impl MemorySource {
         }
     }
 
-    fn is_listed(&self) -> bool {
+    /// Whether the next read fails.
+    fn is_listed(&self) -> bool
+        ensures { result ≡ is_listed (giving self.now).failing (giving self.now).reads }
+    {
         self.failing.as_slice().contains(&self.reads)
     }
 }
 
 impl Source for MemorySource {
-    ghost left = { λ s. Some (drop s.given s.bytes.items) };
+    ghost use Rattle.lp_write.specs.Memory.{giving, is_listed, gives, after_read, after_failed_read};
 
-    ghost faults = { λ s. s.faults };
+    ghost left = { λ s. Some (giving s).left };
 
-    fn read(&mut self, buf: &mut [u8]) -> Result<usize, Failed> {
+    ghost faults = { λ s. (giving s).faults };
+
+    /// Gives the least of the buffer, the most and the bytes left, in no memory; the buffer behind
+    /// them stays.
+    fn read(&mut self, buf: &mut [u8]) -> Result<usize, Failed>
+        requires { 0 < length buf.old }
+        ensures within { IfOk result (λ n. n ≤ length buf.new) }
+        ensures gave { IfOk result (λ n. Some (giving self.old).left ≡ preceded (take n buf.new) (Some (giving self.new).left)) }
+        ensures end { IfOk result (λ n. (bytes : List ℕ) → n ≡ 0 → Some (giving self.old).left ≡ Some bytes → bytes ≡ []) }
+        ensures kept { OnErr result (Some (giving self.new).left ≡ Some (giving self.old).left) }
+        ensures never_falls { (giving self.old).faults ≤ (giving self.new).faults }
+        ensures rose { OnErr result (Rose (giving self.old).faults (giving self.new).faults) }
+        ensures fails { is_err result ≡ is_listed (giving self.old).failing (giving self.old).reads }
+        ensures count { IfOk result (λ n. n ≡ gives (giving self.old) (length buf.old)) }
+        ensures buffer { IfOk result (λ n. buf.new ≡ take n (giving self.old).left ++ drop n buf.old) }
+        ensures given { OnOk result (giving self.new ≡ after_read (giving self.old) (length buf.old)) }
+        ensures fault { OnErr result (giving self.new ≡ after_failed_read (giving self.old)) }
+        ensures untouched { OnErr result (buf.new ≡ buf.old) }
+    {
         let fails = self.is_listed();
         self.reads = self.reads.saturating_add(1);
         if fails {

@@ -1,14 +1,20 @@
 //! The writer of indented lines.
 
-ghost use Rattle.std.specs.Prelude.{◌≡◌, ℕ, ◌+◌, ◌-◌, ◌<◌, ◌≤◌, List, [], ◌∷◌, ◌++◌, length, map, slice_index, OnOk, OnErr};
+ghost use Rattle.std.specs.Prelude.{◌≡◌, ℕ, ◌+◌, ◌-◌, ◌<◌, ◌≤◌, true, false, List, [], ◌∷◌, ◌++◌, length, map, slice_index, IfOk, OnOk, OnErr, string_bytes};
 ghost use Rattle.lp_write.specs.Sinks.{Took, Broke};
 ghost use Rattle.lp_write.specs.Lines.{closes, opens, lowered, raised, blanks, indented};
 ghost use Rattle.lp_write.specs.Lines.Line.{line, verbatim};
+ghost use Rattle.lp_write.specs.Headers.{header, writer_of, empty_header};
+ghost use Rattle.lp_write.specs.Rows.{row_text, AreEntryTexts};
+ghost use Rattle.lp_write.specs.Uses.{standard_uses, all_uses};
 ghost use Rattle.lp_write.specs.Writes.{sink_of, indent_of, options_of, writing, Writes, ending, write_ending};
 
 use crate::headers::FnHeader;
+use crate::rows::{entry_texts, row_text};
 use crate::sinks::{Failed, Sink, write_all, write_blanks};
+use crate::uses::{all_uses, standard_uses};
 use crate::util::AsStr;
+use lp_repr::Text;
 use lp_repr::parse_tree::Visibility;
 use lp_repr::repr::Grammar;
 use std::alloc::{AllocError, Global};
@@ -57,6 +63,10 @@ pub struct Options {
 }
 
 impl Default for Options {
+    ghost use Rattle.std.specs.Prelude.{true, false};
+
+    ghost is_default = { λ o. o ≡ record { comments = false; whitespace = true } };
+
     /// No comments, and whitespace on.
     fn default() -> Options {
         Options {
@@ -200,41 +210,84 @@ impl<W: Sink> RustWrite<W> {
         Ok(())
     }
 
+    /// Appends user code per text, in order.
+    fn codes(&mut self, texts: &[Text]) -> Result<(), Failed>
+        ensures { Writes (ending result) (writing W.told self.old) (writing W.told self.new) (map verbatim texts.now) }
+    {
+        for text in texts {
+            self.code(text.as_str())?;
+        }
+        Ok(())
+    }
+
+    /// Appends a line per text, if memory for the texts was found.
+    pub(crate) fn write_lines(
+        &mut self,
+        texts: Result<Vec<Text>, AllocError>,
+    ) -> Result<(), WriteError>
+        ensures { (lines : List (List ℕ)) → IfOk texts (λ found. found.items ≡ lines) → Writes (write_ending result) (writing W.told self.old) (writing W.told self.new) (map line lines) }
+    {
+        let texts = texts?;
+        self.write_texts(texts.as_slice())
+    }
+
+    fn write_texts(&mut self, texts: &[Text]) -> Result<(), WriteError>
+        ensures { Writes (write_ending result) (writing W.told self.old) (writing W.told self.new) (map line texts.now) }
+    {
+        self.lines(texts)?;
+        Ok(())
+    }
+
     /// Appends a row of a table: its numbers on one line, or, with comments on, one line with the
     /// comment per number and an empty line. The indent stays as it was.
     pub fn write_table_row<C: Display>(
         &mut self,
         alloc: Global,
         row: &[(i32, C)],
-    ) -> Result<(), WriteError> {
+    ) -> Result<(), WriteError>
+        ensures plain { (options_of self.old).comments ≡ false → Writes (write_ending result) (writing W.told self.old) (writing W.told self.new) (verbatim (row_text (options_of self.old).whitespace row.now) ∷ []) }
+        ensures commented { (options_of self.old).comments ≡ true → (texts : List (List ℕ)) × AreEntryTexts C.output row.now texts × Writes (write_ending result) (writing W.told self.old) (writing W.told self.new) (map verbatim texts ++ line [] ∷ []) }
+    {
         if self.options.comments {
             self.write_commented_row(alloc, row)
         } else {
-            let text = row_text(alloc, self.options.whitespace, row)?;
-            self.code(text.as_str())?;
-            Ok(())
+            self.write_plain_row(alloc, row)
         }
+    }
+
+    fn write_plain_row<C>(&mut self, alloc: Global, row: &[(i32, C)]) -> Result<(), WriteError>
+        ensures { Writes (write_ending result) (writing W.told self.old) (writing W.told self.new) (verbatim (row_text self.old.options.whitespace row.now) ∷ []) }
+    {
+        let text = row_text(alloc, self.options.whitespace, row)?;
+        self.code(text.as_str())?;
+        Ok(())
     }
 
     fn write_commented_row<C: Display>(
         &mut self,
         alloc: Global,
         row: &[(i32, C)],
-    ) -> Result<(), WriteError> {
-        for (entry, comment) in row {
-            let text = format!(in alloc; "{entry}, {comment}")?;
-            self.code(text.as_str())?;
-        }
-        self.line("")?;
+    ) -> Result<(), WriteError>
+        ensures { (texts : List (List ℕ)) × AreEntryTexts C.output row.now texts × Writes (write_ending result) (writing W.told self.old) (writing W.told self.new) (map verbatim texts ++ line [] ∷ []) }
+    {
+        let texts = entry_texts(alloc, row)?;
+        self.write_entries(texts.as_slice())?;
         Ok(())
     }
 
+    /// Appends the entries of a row with their comments, and an empty line.
+    fn write_entries(&mut self, texts: &[Text]) -> Result<(), Failed>
+        ensures { Writes (ending result) (writing W.told self.old) (writing W.told self.new) (map verbatim texts.now ++ line [] ∷ []) }
+    {
+        self.codes(texts)?;
+        self.line("")
+    }
+
     /// Appends the attributes of the grammar's module, one per line.
-    pub fn write_module_attributes(&mut self, grammar: &Grammar) -> Result<(), Failed> {
-        for attribute in grammar.module_attributes.as_slice() {
-            self.line(attribute.as_str())?;
-        }
-        Ok(())
+    pub fn write_module_attributes(&mut self, grammar: &Grammar) -> Result<(), Failed>
+        ensures { Writes (ending result) (writing W.told self.old) (writing W.told self.new) (map line grammar.now.module_attributes) }
+    {
+        self.lines(grammar.module_attributes.as_slice())
     }
 
     /// Appends a `use` line per use of the grammar, one that begins with `super::` after the
@@ -244,32 +297,22 @@ impl<W: Sink> RustWrite<W> {
         alloc: Global,
         super_prefix: &str,
         grammar: &Grammar,
-    ) -> Result<(), WriteError> {
-        for path in grammar.uses.as_slice() {
-            let path = path.as_str();
-            let text = if path.starts_with("super::") {
-                format!(in alloc; "use {super_prefix}{path};")?
-            } else {
-                format!(in alloc; "use {path};")?
-            };
-            self.line(text.as_str())?;
-        }
-        self.write_standard_uses(alloc, grammar.prefix.as_str())
+    ) -> Result<(), WriteError>
+        ensures { Writes (write_ending result) (writing W.told self.old) (writing W.told self.new) (map line (all_uses super_prefix.now grammar.now.prefix grammar.now.uses)) }
+    {
+        self.write_lines(all_uses(
+            alloc,
+            super_prefix,
+            grammar.prefix.as_str(),
+            grammar.uses.as_slice(),
+        ))
     }
 
     /// Appends the uses of every module, under the prefix.
-    pub fn write_standard_uses(&mut self, alloc: Global, prefix: &str) -> Result<(), WriteError> {
-        let util = format!(in alloc; "extern crate lalrpop_util as {prefix}lalrpop_util;")?;
-        let machine = format!(in alloc;
-            "use self::{prefix}lalrpop_util::state_machine as {prefix}state_machine;"
-        )?;
-        self.line("#[allow(unused_extern_crates)]")?;
-        self.line(util.as_str())?;
-        self.line("#[allow(unused_imports)]")?;
-        self.line(machine.as_str())?;
-        self.line("#[allow(unused_extern_crates)]")?;
-        self.line("extern crate alloc;")?;
-        Ok(())
+    pub fn write_standard_uses(&mut self, alloc: Global, prefix: &str) -> Result<(), WriteError>
+        ensures { Writes (write_ending result) (writing W.told self.old) (writing W.told self.new) (map line (standard_uses prefix.now)) }
+    {
+        self.write_lines(standard_uses(alloc, prefix))
     }
 
     /// A header of a function of this name, to which lists are added and which then is emitted.
@@ -278,20 +321,11 @@ impl<W: Sink> RustWrite<W> {
         alloc: Global,
         visibility: &'me Visibility,
         name: String,
-    ) -> FnHeader<'me, W> {
+    ) -> FnHeader<'me, W>
+        ensures same_reference { (writer_of result).ghost_name ≡ self.entry.ghost_name }
+        ensures same_writer { (writer_of result).now ≡ self.old }
+        ensures header { header result ≡ empty_header visibility.now (string_bytes name) }
+    {
         FnHeader::new(alloc, self, visibility, name)
     }
-}
-
-/// The numbers of a row, a `,` behind each.
-fn row_text<C>(alloc: Global, whitespace: bool, row: &[(i32, C)]) -> Result<String, AllocError> {
-    let mut text = String::new(alloc);
-    for (entry, _comment) in row {
-        if whitespace && text.len() > 0 {
-            text.push_str(" ")?;
-        }
-        let piece = format!(in alloc; "{entry},")?;
-        text.push_str(piece.as_str())?;
-    }
-    Ok(text)
 }

@@ -1,6 +1,10 @@
 //! Wrappers that show texts and lists.
 
-ghost use Rattle.std.specs.Prelude.{◌≡◌, ℕ, List};
+ghost use Rattle.std.specs.Prelude.{◌≡◌, ℕ, List, map, Some, IfOk, string_bytes};
+ghost use Rattle.std.specs.Fmt.{WritesOnOk, DisplaysOnOk};
+ghost use Rattle.std.specs.Str.{trim};
+ghost use Rattle.lp_repr.specs.Escapes.{escaped_text};
+ghost use Rattle.lp_write.specs.Texts.{after_each, between, name_character, name_text};
 
 use lp_repr::{Escaped, Text};
 use std::alloc::{AllocError, Global};
@@ -11,16 +15,16 @@ use std::fmt::{self, Display};
 pub struct Sep<S>(pub &'static str, pub S);
 
 impl<S: Display> Display for Sep<&Vec<S>> {
+    ghost output = { λ x. between x.0.now (map S.output x.1.now.items) };
+
     fn fmt<W: fmt::Write>(&self, f: &mut fmt::Formatter<W>) -> fmt::Result {
-        let mut first = true;
-        for element in self.1 {
-            if !first {
-                f.write_str(self.0)?;
+        match self.1.as_slice().split_first() {
+            None => Ok(()),
+            Some((first, rest)) => {
+                first.fmt(f)?;
+                write_after_each(f, self.0, rest)
             }
-            first = false;
-            write!(f, "{element}")?;
         }
-        Ok(())
     }
 }
 
@@ -29,13 +33,26 @@ impl<S: Display> Display for Sep<&Vec<S>> {
 pub struct Prefix<S>(pub &'static str, pub S);
 
 impl<S: Display> Display for Prefix<&[S]> {
+    ghost output = { λ x. after_each x.0.now (map S.output x.1.now) };
+
     fn fmt<W: fmt::Write>(&self, f: &mut fmt::Formatter<W>) -> fmt::Result {
-        let prefix = self.0;
-        for element in self.1 {
-            write!(f, "{prefix}{element}")?;
-        }
-        Ok(())
+        write_after_each(f, self.0, self.1)
     }
+}
+
+/// The elements, each after the text.
+fn write_after_each<W: fmt::Write, S: Display>(
+    f: &mut fmt::Formatter<W>,
+    text: &str,
+    elements: &[S],
+) -> fmt::Result
+    ensures { DisplaysOnOk W.write_str_gives f.old result (after_each text.now (map S.output elements.now)) f.new }
+{
+    for element in elements {
+        f.write_str(text)?;
+        element.fmt(f)?;
+    }
+    Ok(())
 }
 
 /// What has a text.
@@ -55,8 +72,6 @@ impl AsStr for &str {
 }
 
 impl AsStr for String {
-    ghost use Rattle.std.specs.Prelude.{string_bytes};
-
     ghost text = { λ s. string_bytes s };
 
     fn as_str(&self) -> &str {
@@ -78,28 +93,46 @@ impl AsStr for Text {
 pub struct Escape<S>(pub S);
 
 impl<S: AsStr> Display for Escape<S> {
+    ghost output = { λ e. Some (name_text (S.text e.0)) };
+
     fn fmt<W: fmt::Write>(&self, f: &mut fmt::Formatter<W>) -> fmt::Result {
-        for c in self.0.as_str().chars() {
-            match c {
-                'a'..='z' | '0'..='9' | 'A'..='Z' => f.write_char(c)?,
-                '_' => f.write_str("__")?,
-                _ => {
-                    let code = c as u32;
-                    write!(f, "_{code:x}")?
-                }
-            }
-        }
-        Ok(())
+        write_name(f, self.0.as_str())
     }
 }
 
+fn write_name<W: fmt::Write>(f: &mut fmt::Formatter<W>, text: &str) -> fmt::Result
+    ensures { WritesOnOk W.write_str_gives f.old result (name_text text.now) f.new }
+{
+    for c in text.chars() {
+        write_name_character(f, c)?;
+    }
+    Ok(())
+}
+
+fn write_name_character<W: fmt::Write>(f: &mut fmt::Formatter<W>, c: char) -> fmt::Result
+    ensures { WritesOnOk W.write_str_gives f.old result (name_character c) f.new }
+{
+    if c.is_ascii_alphanumeric() {
+        return f.write_char(c);
+    }
+    if c == '_' {
+        return f.write_str("__");
+    }
+    let code = c as u32;
+    write!(f, "_{code:x}")
+}
+
 /// The text without blanks in front and behind.
-pub fn strip(s: &str) -> &str {
+pub fn strip(s: &str) -> &str
+    ensures { result.now ≡ trim s.now }
+{
     s.trim()
 }
 
 /// The text as a literal of Rust.
-pub fn literal(alloc: Global, text: &str) -> Result<String, AllocError> {
+pub fn literal(alloc: Global, text: &str) -> Result<String, AllocError>
+    ensures { IfOk result (λ t. string_bytes t ≡ escaped_text text.now) }
+{
     let escaped = Escaped(text);
     format!(in alloc; "{escaped}")
 }

@@ -1,4 +1,4 @@
-use Rattle.std.proofs.Common.{arith, take, drop}
+use Rattle.std.proofs.Common.{arith}
 use Rattle.std.proofs.Math.Seq.{take-add}
 use Rattle.lp_write.proofs.Sinking.{took-then}
 use Rattle.lp_write.proofs.sinks.write_all.Goals as goal

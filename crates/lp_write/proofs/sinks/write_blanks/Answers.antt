@@ -1,4 +1,4 @@
-use Rattle.std.proofs.Common.{arith, ◌≡◌, ◌≤◌, replicate, ℕ}
+use Rattle.std.proofs.Common.{arith, ◌≤◌, ℕ}
 use Rattle.std.proofs.lemmas.List.{take-replicate}
 use Rattle.std.proofs.lemmas.Result.{err_from_is_err_and}
 use Rattle.lp_write.proofs.Sinking.{blanks-took, blanks-broke}

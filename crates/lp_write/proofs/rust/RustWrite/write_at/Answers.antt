@@ -1,4 +1,3 @@
-use Rattle.std.proofs.Common.{arith}
 use Rattle.std.proofs.lemmas.Result.{err_from_is_err_and, on_err_weaker}
 use Rattle.lp_write.proofs.Sinking.{took-then, broke-then, broke-more}
 use Rattle.lp_write.proofs.rust.RustWrite.write_at.Goals as goal
