@@ -1,0 +1,6 @@
+pub mod ErrorTerminal
+pub mod FirstFailing
+pub mod LeastFailure
+pub mod Lookups
+pub mod NewThings
+pub mod Pieces

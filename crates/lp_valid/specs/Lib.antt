@@ -1,1 +1,5 @@
+pub mod ActionRules
+pub mod Places
 pub mod Refusals
+pub mod TerminalRules
+pub mod ValidGrammar

@@ -1,7 +1,7 @@
 //! What a grammar declares, and whether its productions and actions name nothing else.
 
 use crate::grammars::from_place;
-use lp_repr::numbering::{Numbers, productions};
+use lp_repr::numbering::Numbers;
 use lp_repr::repr::{
     ActionFnDefn, ActionFnDefnKind, Grammar, InlinedSymbol, NonterminalString, Production, Symbol,
 };
@@ -13,15 +13,19 @@ use std::collections::BTreeSet;
 pub(crate) struct Declared<'g> {
     pub(crate) grammar: &'g Grammar,
     pub(crate) numbers: Numbers<'g>,
-    pub(crate) productions: Vec<&'g Production>,
+    pub(crate) productions: &'g [&'g Production],
 }
 
 impl<'g> Declared<'g> {
-    pub(crate) fn new(alloc: Global, grammar: &'g Grammar) -> Result<Declared<'g>, AllocError> {
+    pub(crate) fn new(
+        alloc: Global,
+        grammar: &'g Grammar,
+        productions: &'g [&'g Production],
+    ) -> Result<Declared<'g>, AllocError> {
         Ok(Declared {
             grammar,
             numbers: Numbers::new(alloc, grammar)?,
-            productions: productions(alloc, grammar)?,
+            productions,
         })
     }
 
@@ -43,7 +47,7 @@ impl<'g> Declared<'g> {
     /// Whether each nonterminal stands on a right side, by number.
     fn right_sides(&self, alloc: Global) -> Result<Vec<bool>, AllocError> {
         let mut stands = vec![in alloc; false; self.grammar.nonterminals.len()]?;
-        for production in &self.productions {
+        for production in self.productions {
             self.mark_right_side(production.symbols.as_slice(), &mut stands);
         }
         Ok(stands)

@@ -7,6 +7,7 @@ mod grammars;
 mod item_sets;
 mod names;
 mod prefixes;
+mod repeats;
 mod spelling;
 mod tables;
 mod terminals;
