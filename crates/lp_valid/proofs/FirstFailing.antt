@@ -78,3 +78,16 @@ pub after_those : {E : Type 0} (before n : ℕ) (First Second : ℕ → Type 0) 
 after_those before n First Second failing (Ok p) same first second e =
     subst (IsFirstFailing (Then n First Second)) (sym (e ∙ ap (λ b. option_map (λ k. b + k) failing) same)) (second_of_two n First Second failing first second)
 after_those before n First Second failing (Err x) same first second e = tt
+
+-- the two cases of a rule over a list of things and then of another rule
+pub failing_in_list : {X : Type 0} (test : X → Bool) (xs : List X) (Second : ℕ → Type 0) (place : ℕ) → Some place ≡ position (λ x. not (test x)) xs → IsFirstFailing (Then (length xs) (EachPasses test xs) Second) (Some place)
+failing_in_list test xs Second place e =
+    let first = first_from_position test xs (Some place) e in
+    first_of_two (length xs) (EachPasses test xs) Second place (fails_within test xs place first.0) first
+
+pub failing_past_list : {X E : Type 0} (test : X → Bool) (xs : List X) (Second : ℕ → Type 0) (before : ℕ) (failing : Option ℕ) (r : Result (Option ℕ) E) → before ≡ length xs → None ≡ position (λ x. not (test x)) xs → IsFirstFailing Second failing → IfOk r (λ p. p ≡ option_map (λ k. before + k) failing) → IfOk r (IsFirstFailing (Then (length xs) (EachPasses test xs) Second))
+failing_past_list test xs Second before failing r same none second e = after_those before (length xs) (EachPasses test xs) Second failing r same (first_from_position test xs None none) second e
+
+-- a rule that says one thing
+pub fails_at_once : (P : Type 0) → ¬ P → IsFirstFailing (λ place. P) (Some 0)
+fails_at_once P h = (h, λ j less. absurd (omega arith))

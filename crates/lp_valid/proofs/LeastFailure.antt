@@ -1,43 +1,13 @@
 -- The least failing rule.
-use Rattle.std.proofs.Common.{◌≡◌, ℕ, ◌<◌, ◌≤◌, ◌+◌, refl, arith, sym, subst, Option, Some, None, Result, Ok, Err, MatchResult, ⊎_elim}
+use Rattle.std.proofs.Common.{◌≡◌, ℕ, ◌<◌, ◌≤◌, ◌+◌, arith, None, Result, Ok, Err, MatchResult, ⊎_elim}
 use Rattle.std.proofs.lemmas.Bool.{cases_lt}
 use Rattle.lp_repr.specs.declared.repr.Grammar.{Grammar}
 use Rattle.lp_valid.specs.Places.{IsFirstFailing}
-use Rattle.lp_valid.specs.ValidGrammar.{GrammarRule, types, counts, fallibles, error_terminal, distinct_terminals, number, Says, HoldsBelow, IsValidGrammar}
+use Rattle.lp_valid.specs.ValidGrammar.{GrammarRule, names, types, counts, fallibles, error_terminal, distinct_terminals, number, Says, HoldsBelow, IsValidGrammar}
 
--- a rule has its own number
-pub only_one : (P : GrammarRule → Type 0) (this : GrammarRule) → P this → (rule : GrammarRule) → number rule ≡ number this → P rule
-only_one P types h types e = h
-only_one P types h _ e = absurd (omega arith)
-only_one P counts h counts e = h
-only_one P counts h _ e = absurd (omega arith)
-only_one P fallibles h fallibles e = h
-only_one P fallibles h _ e = absurd (omega arith)
-only_one P error_terminal h error_terminal e = h
-only_one P error_terminal h _ e = absurd (omega arith)
-only_one P distinct_terminals h distinct_terminals e = h
-only_one P distinct_terminals h _ e = absurd (omega arith)
-
--- the rule of this number has its first failing place
-pub first_of_rule : (g : Grammar) (this : GrammarRule) (r : Option ℕ) → IsFirstFailing (Says g this) r → (rule : GrammarRule) → number rule ≡ number this → IsFirstFailing (Says g rule) r
-first_of_rule g this r h = only_one (λ rule. IsFirstFailing (Says g rule) r) this h
-
--- no rule has a number below 5, or the number 7
-pub from_five : (rule : GrammarRule) → 5 ≤ number rule
-from_five types = omega arith
-from_five counts = omega arith
-from_five fallibles = omega arith
-from_five error_terminal = omega arith
-from_five distinct_terminals = omega arith
-
-pub none_is_seven : (rule : GrammarRule) → number rule ≡ 7 → ⊥
-none_is_seven types e = omega arith
-none_is_seven counts e = omega arith
-none_is_seven fallibles e = omega arith
-none_is_seven error_terminal e = omega arith
-none_is_seven distinct_terminals e = omega arith
-
+-- the numbers of rules
 pub upto_ten : (rule : GrammarRule) → number rule ≤ 10
+upto_ten names = omega arith
 upto_ten types = omega arith
 upto_ten counts = omega arith
 upto_ten fallibles = omega arith

@@ -4,3 +4,4 @@ pub mod LeastFailure
 pub mod Lookups
 pub mod NewThings
 pub mod Pieces
+pub mod Words

@@ -1,4 +1,5 @@
 pub mod ActionRules
+pub mod NameRules
 pub mod Places
 pub mod Refusals
 pub mod TerminalRules

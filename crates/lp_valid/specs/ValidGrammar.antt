@@ -1,13 +1,15 @@
 -- Valid grammars.
-use Rattle.std.specs.Prelude.{◌≡◌, ℕ, ◌<◌, length, Some}
+use Rattle.std.specs.Prelude.{◌≡◌, ℕ, ◌<◌, length, Some, IsTrue}
 use Rattle.lp_repr.specs.Numbering.{productions_of, nonterminals_of, terminals_of}
 use Rattle.lp_repr.specs.declared.repr.Grammar.{Grammar}
 use Rattle.lp_valid.specs.ActionRules.{takes, kind_has_counts, kind_may_fail}
+use Rattle.lp_valid.specs.NameRules.{start_has_names, is_parameter_name, kind_has_names, has_input}
 use Rattle.lp_valid.specs.TerminalRules.{terminal_has_type, nonterminal_has_type, ErrorIsLast, EndsInError, IsNewTerminal}
 use Rattle.lp_valid.specs.Places.{EachPasses, Then, IsFirstFailing}
 
 -- the rules
 pub data GrammarRule : Type 0 where
+  names : GrammarRule
   types : GrammarRule
   counts : GrammarRule
   fallibles : GrammarRule
@@ -16,14 +18,24 @@ pub data GrammarRule : Type 0 where
 
 -- the number of a rule
 abbrev pub number : GrammarRule → ℕ
+number names = 2
 number types = 5
 number counts = 6
 number fallibles = 8
 number error_terminal = 9
 number distinct_terminals = 10
 
+-- actions' arguments have names that they can have, and at last an interned grammar has its parameter
+abbrev pub ActionsAreNamed : Grammar → ℕ → Type 0
+ActionsAreNamed g = Then (length g.action_fn_defns) (EachPasses (λ a. kind_has_names a.kind) g.action_fn_defns) (λ place. IsTrue (has_input g))
+
+-- parameters have names that they can have, and then actions' arguments
+abbrev pub ParametersAreNamed : Grammar → ℕ → Type 0
+ParametersAreNamed g = Then (length g.parameters) (EachPasses (λ p. is_parameter_name p.name) g.parameters) (ActionsAreNamed g)
+
 -- what a rule says of a grammar at a place
 abbrev pub Says : Grammar → GrammarRule → ℕ → Type 0
+Says g names = Then (length g.start_nonterminals.entries) (EachPasses start_has_names g.start_nonterminals.entries) (ParametersAreNamed g)
 Says g types = Then (length (terminals_of g)) (EachPasses (terminal_has_type g) (terminals_of g)) (EachPasses (nonterminal_has_type g) (nonterminals_of g))
 Says g counts = Then (length (productions_of g)) (EachPasses (λ p. takes g.action_fn_defns p.action (length p.symbols)) (productions_of g)) (EachPasses (λ a. kind_has_counts g.action_fn_defns a.kind) g.action_fn_defns)
 Says g fallibles = EachPasses (λ a. kind_may_fail g.action_fn_defns a.fallible a.kind) g.action_fn_defns

@@ -6,7 +6,7 @@ ghost use Rattle.std.specs.Option.{option_map};
 ghost use Rattle.lp_repr.specs.Numbering.{productions_of};
 ghost use Rattle.lp_valid.specs.Places.{IsFirstFailing};
 ghost use Rattle.lp_valid.specs.Refusals.{RefusesGrammar};
-ghost use Rattle.lp_valid.specs.ValidGrammar.{GrammarRule, number, HoldsBelow, types, counts, fallibles, error_terminal, distinct_terminals, Says, IsValidGrammar};
+ghost use Rattle.lp_valid.specs.ValidGrammar.{GrammarRule, number, HoldsBelow, names, types, counts, fallibles, error_terminal, distinct_terminals, ActionsAreNamed, ParametersAreNamed, Says, IsValidGrammar};
 
 use crate::declared::Declared;
 use crate::repeats::failing_repeat;
@@ -75,7 +75,7 @@ fn check_symbols(
 {
     let declared = Declared::new(alloc, grammar, productions)?;
     passes(grammar, 1, declared.failing_start(alloc)?)?;
-    passes(grammar, 2, spelling::failing_name(grammar))?;
+    passes(grammar, 2, failing_names(grammar)?)?;
     passes(grammar, 3, spelling::failing_prefix(alloc, grammar)?)?;
     passes(grammar, 4, declared.failing_symbols(alloc)?)?;
     passes(grammar, 5, failing_types(grammar)?)
@@ -97,6 +97,41 @@ fn check_actions(
     passes(grammar, 8, failing_fallibles(grammar))?;
     passes(grammar, 9, failing_error_terminal(grammar)?)?;
     passes(grammar, 10, failing_distinct_terminals(alloc, grammar)?)
+}
+
+/// The first start, parameter or action with a name that it can't have; at last, whether the
+/// parameter of an interned grammar is missing.
+fn failing_names(grammar: &Grammar) -> Result<Option<usize>, AllocError>
+    ensures { IfOk result (IsFirstFailing (Says grammar.now names)) }
+{
+    if let Some(place) = spelling::failing_start_name(grammar) {
+        return Ok(Some(place));
+    }
+    let before = grammar.start_nonterminals.len();
+    after(before, failing_parameter_names(grammar)?)
+}
+
+fn failing_parameter_names(grammar: &Grammar) -> Result<Option<usize>, AllocError>
+    ensures { IfOk result (IsFirstFailing (ParametersAreNamed grammar.now)) }
+{
+    let parameters = grammar.parameters.as_slice();
+    if let Some(place) = spelling::failing_parameter_name(parameters) {
+        return Ok(Some(place));
+    }
+    after(parameters.len(), failing_action_names(grammar))
+}
+
+fn failing_action_names(grammar: &Grammar) -> Option<usize>
+    ensures { IsFirstFailing (ActionsAreNamed grammar.now) result }
+{
+    let actions = grammar.action_fn_defns.as_slice();
+    if let Some(place) = spelling::failing_argument_name(actions) {
+        return Some(place);
+    }
+    if spelling::has_input(grammar) {
+        return None;
+    }
+    Some(actions.len())
 }
 
 /// The first terminal, and then the first nonterminal, without a type; a terminal but the error
