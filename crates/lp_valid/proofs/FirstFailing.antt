@@ -1,8 +1,9 @@
 -- The first place at which a rule fails, from the first element of a list that fails a test.
-use Rattle.std.proofs.Common.{◌≡◌, ℕ, ◌+◌, ◌-◌, ◌<◌, ◌≤◌, zero, suc, Bool, true, false, not, cond, List, [], ◌∷◌, map, length, refl, arith, sym, ap, ◌∙◌, subst, Option, Some, None, IsTrue, IfOk, Result, Ok, Err, slice_get, position}
+use Rattle.std.proofs.Common.{◌≡◌, ℕ, ◌+◌, ◌-◌, ◌<◌, ◌≤◌, zero, suc, Bool, true, false, not, cond, List, [], ◌∷◌, map, length, refl, arith, sym, ap, ◌∙◌, subst, Option, Some, None, IsTrue, IfSome, IfOk, Result, Ok, Err, slice_get, position}
 use Rattle.std.specs.List.{position_from}
 use Rattle.std.specs.Option.{option_map, MatchOption}
 use Rattle.std.proofs.lemmas.Iterator.Adapters.{position_from-zero}
+use Rattle.std.proofs.lemmas.Option.{slice_get_past}
 use Rattle.lp_valid.specs.Places.{EachPasses, Then, IsFirstFailing}
 
 -- the same, of places that are counted from i
@@ -91,3 +92,31 @@ failing_past_list test xs Second before failing r same none second e = after_tho
 -- a rule that says one thing
 pub fails_at_once : (P : Type 0) → ¬ P → IsFirstFailing (λ place. P) (Some 0)
 fails_at_once P h = (h, λ j less. absurd (omega arith))
+
+-- past the last element nothing fails
+pub passes_past : {X : Type 0} (test : X → Bool) (xs : List X) (k : ℕ) → length xs ≤ k → EachPasses test xs k
+passes_past test xs k h = subst (λ o. IfSome o (λ y. IsTrue (test y))) (sym (slice_get_past xs k h)) tt
+
+passes_image : {X Y : Type 0} (f : X → Y) (test : Y → Bool) (xs : List X) (k : ℕ) → EachPasses (λ x. test (f x)) xs k → EachPasses test (map f xs) k
+passes_image f test [] k h = tt
+passes_image f test (x ∷ xs) zero h = h
+passes_image f test (x ∷ xs) (suc k) h = passes_image f test xs k h
+
+image_passes : {X Y : Type 0} (f : X → Y) (test : Y → Bool) (xs : List X) (k : ℕ) → EachPasses test (map f xs) k → EachPasses (λ x. test (f x)) xs k
+image_passes f test [] k h = tt
+image_passes f test (x ∷ xs) zero h = h
+image_passes f test (x ∷ xs) (suc k) h = image_passes f test xs k h
+
+pub failing_image : {X Y : Type 0} (f : X → Y) (test : Y → Bool) (xs : List X) (r : Option ℕ) → IsFirstFailing (EachPasses (λ x. test (f x)) xs) r → IsFirstFailing (EachPasses test (map f xs)) r
+failing_image f test xs None h = λ k. passes_image f test xs k (h k)
+failing_image f test xs (Some k) h = (λ is. h.0 (image_passes f test xs k is), λ j less. passes_image f test xs j (h.1 j less))
+
+passes_alike : {X : Type 0} (p q : X → Bool) → ((x : X) → p x ≡ q x) → (xs : List X) (k : ℕ) → EachPasses p xs k → EachPasses q xs k
+passes_alike p q e [] k h = tt
+passes_alike p q e (x ∷ xs) zero h = sym (e x) ∙ h
+passes_alike p q e (x ∷ xs) (suc k) h = passes_alike p q e xs k h
+
+-- tests that agree fail at the same place
+pub failing_alike : {X : Type 0} (p q : X → Bool) → ((x : X) → p x ≡ q x) → (xs : List X) (r : Option ℕ) → IsFirstFailing (EachPasses p xs) r → IsFirstFailing (EachPasses q xs) r
+failing_alike p q e xs None h = λ k. passes_alike p q e xs k (h k)
+failing_alike p q e xs (Some k) h = (λ is. h.0 (passes_alike q p (λ x. sym (e x)) xs k is), λ j less. passes_alike p q e xs j (h.1 j less))

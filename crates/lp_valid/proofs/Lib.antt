@@ -4,4 +4,5 @@ pub mod LeastFailure
 pub mod Lookups
 pub mod NewThings
 pub mod Pieces
+pub mod Sides
 pub mod Words

@@ -4,11 +4,13 @@ use Rattle.lp_repr.specs.Numbering.{productions_of, nonterminals_of, terminals_o
 use Rattle.lp_repr.specs.declared.repr.Grammar.{Grammar}
 use Rattle.lp_valid.specs.ActionRules.{takes, kind_has_counts, kind_may_fail}
 use Rattle.lp_valid.specs.NameRules.{start_has_names, is_parameter_name, kind_has_names, has_input}
+use Rattle.lp_valid.specs.StartRules.{is_start}
 use Rattle.lp_valid.specs.TerminalRules.{terminal_has_type, nonterminal_has_type, ErrorIsLast, EndsInError, IsNewTerminal}
 use Rattle.lp_valid.specs.Places.{EachPasses, Then, IsFirstFailing}
 
 -- the rules
 pub data GrammarRule : Type 0 where
+  starts : GrammarRule
   names : GrammarRule
   types : GrammarRule
   counts : GrammarRule
@@ -18,6 +20,7 @@ pub data GrammarRule : Type 0 where
 
 -- the number of a rule
 abbrev pub number : GrammarRule → ℕ
+number starts = 1
 number names = 2
 number types = 5
 number counts = 6
@@ -35,6 +38,7 @@ ParametersAreNamed g = Then (length g.parameters) (EachPasses (λ p. is_paramete
 
 -- what a rule says of a grammar at a place
 abbrev pub Says : Grammar → GrammarRule → ℕ → Type 0
+Says g starts = EachPasses (is_start g) g.start_nonterminals.entries
 Says g names = Then (length g.start_nonterminals.entries) (EachPasses start_has_names g.start_nonterminals.entries) (ParametersAreNamed g)
 Says g types = Then (length (terminals_of g)) (EachPasses (terminal_has_type g) (terminals_of g)) (EachPasses (nonterminal_has_type g) (nonterminals_of g))
 Says g counts = Then (length (productions_of g)) (EachPasses (λ p. takes g.action_fn_defns p.action (length p.symbols)) (productions_of g)) (EachPasses (λ a. kind_has_counts g.action_fn_defns a.kind) g.action_fn_defns)

@@ -10,6 +10,7 @@ ghost use Rattle.lp_valid.specs.ValidGrammar.{GrammarRule, number, HoldsBelow, n
 
 use crate::declared::Declared;
 use crate::repeats::failing_repeat;
+use crate::starts::failing_start;
 use crate::{actions, spelling, terminals};
 use lp_repr::numbering::productions;
 use lp_repr::repr::{Grammar, Production};
@@ -66,15 +67,16 @@ pub fn check_grammar(alloc: Global, grammar: &Grammar) -> Result<(), GrammarFaul
 }
 
 /// Checks the rules up to the fifth.
-fn check_symbols(
+fn check_symbols<'g>(
     alloc: Global,
-    grammar: &Grammar,
-    productions: &[&Production],
+    grammar: &'g Grammar,
+    productions: &[&'g Production],
 ) -> Result<(), GrammarFault>
+    requires { map deref productions.now ≡ productions_of grammar.now }
     ensures { MatchResult result (λ _. HoldsBelow grammar.now 6) (RefusesGrammar grammar.now) }
 {
     let declared = Declared::new(alloc, grammar, productions)?;
-    passes(grammar, 1, declared.failing_start(alloc)?)?;
+    passes(grammar, 1, failing_start(alloc, grammar, productions)?)?;
     passes(grammar, 2, failing_names(grammar)?)?;
     passes(grammar, 3, spelling::failing_prefix(alloc, grammar)?)?;
     passes(grammar, 4, declared.failing_symbols(alloc)?)?;

@@ -9,6 +9,7 @@ mod names;
 mod prefixes;
 mod repeats;
 mod spelling;
+mod starts;
 mod tables;
 mod terminals;
 
