@@ -1,4 +1,4 @@
--- Valid grammars.
+-- Valid grammars, by seven of the ten rules: those on the prefix, on known symbols and distinct productions, and on inlines that reach themselves are not stated yet.
 use Rattle.std.specs.Prelude.{◌≡◌, ℕ, ◌<◌, length, Some, IsTrue}
 use Rattle.lp_repr.specs.Numbering.{productions_of, nonterminals_of, terminals_of}
 use Rattle.lp_repr.specs.declared.repr.Grammar.{Grammar}
@@ -8,7 +8,7 @@ use Rattle.lp_valid.specs.StartRules.{is_start}
 use Rattle.lp_valid.specs.TerminalRules.{terminal_has_type, nonterminal_has_type, ErrorIsLast, EndsInError, IsNewTerminal}
 use Rattle.lp_valid.specs.Places.{EachPasses, Then, IsFirstFailing}
 
--- the rules
+-- the rules that are stated
 pub data GrammarRule : Type 0 where
   starts : GrammarRule
   names : GrammarRule
@@ -46,7 +46,7 @@ Says g fallibles = EachPasses (λ a. kind_may_fail g.action_fn_defns a.fallible 
 Says g error_terminal = Then (length (terminals_of g)) (ErrorIsLast (terminals_of g)) (λ place. EndsInError (terminals_of g) g.uses_error_recovery)
 Says g distinct_terminals = IsNewTerminal (terminals_of g)
 
--- each rule holds at each place
+-- each of these rules holds at each place
 abbrev pub IsValidGrammar : Grammar → Type 0
 IsValidGrammar g = (rule : GrammarRule) (place : ℕ) → Says g rule place
 
