@@ -1,7 +1,7 @@
 //! What a grammar declares, and whether its productions and actions name nothing else.
 
 use crate::grammars::from_place;
-use lp_repr::numbering::{Numbers, productions};
+use lp_repr::numbering::Numbers;
 use lp_repr::repr::{
     ActionFnDefn, ActionFnDefnKind, Grammar, InlinedSymbol, NonterminalString, Production, Symbol,
 };
@@ -13,62 +13,24 @@ use std::collections::BTreeSet;
 pub(crate) struct Declared<'g> {
     pub(crate) grammar: &'g Grammar,
     pub(crate) numbers: Numbers<'g>,
-    pub(crate) productions: Vec<&'g Production>,
+    pub(crate) productions: &'g [&'g Production],
 }
 
 impl<'g> Declared<'g> {
-    pub(crate) fn new(alloc: Global, grammar: &'g Grammar) -> Result<Declared<'g>, AllocError> {
+    pub(crate) fn new(
+        alloc: Global,
+        grammar: &'g Grammar,
+        productions: &'g [&'g Production],
+    ) -> Result<Declared<'g>, AllocError> {
         Ok(Declared {
             grammar,
             numbers: Numbers::new(alloc, grammar)?,
-            productions: productions(alloc, grammar)?,
+            productions,
         })
     }
 
     pub(crate) fn actions(&self) -> &'g [ActionFnDefn] {
         self.grammar.action_fn_defns.as_slice()
-    }
-
-    /// The first start whose public name or nonterminal is not as a start's.
-    pub(crate) fn failing_start(&self, alloc: Global) -> Result<Option<usize>, AllocError> {
-        let on_right = self.right_sides(alloc)?;
-        for (place, (public, start)) in self.grammar.start_nonterminals.iter().enumerate() {
-            if self.numbers.nonterminal(public).is_none() || !self.is_start(start, &on_right) {
-                return Ok(Some(place));
-            }
-        }
-        Ok(None)
-    }
-
-    /// Whether each nonterminal stands on a right side, by number.
-    fn right_sides(&self, alloc: Global) -> Result<Vec<bool>, AllocError> {
-        let mut stands = vec![in alloc; false; self.grammar.nonterminals.len()]?;
-        for production in &self.productions {
-            self.mark_right_side(production.symbols.as_slice(), &mut stands);
-        }
-        Ok(stands)
-    }
-
-    fn mark_right_side(&self, symbols: &[Symbol], stands: &mut Vec<bool>) {
-        for symbol in symbols {
-            if let Symbol::Nonterminal(name) = symbol {
-                if let Some(number) = self.numbers.nonterminal(name) {
-                    if number < stands.len() {
-                        stands[number] = true;
-                    }
-                }
-            }
-        }
-    }
-
-    /// Declared, with exactly one production of exactly one symbol, and on no right side.
-    fn is_start(&self, start: &NonterminalString, on_right: &[bool]) -> bool {
-        match self.numbers.nonterminal(start) {
-            None => false,
-            Some(number) => {
-                on_right.get(number) == Some(&false) && has_one_symbol(self.grammar, start)
-            }
-        }
     }
 
     /// The first production, and then the first action, that names what isn't declared; a
@@ -138,15 +100,4 @@ fn key(production: &Production) -> ProductionKey<'_> {
         production.symbols.as_slice(),
         production.action,
     )
-}
-
-/// Whether the nonterminal has exactly one production, of exactly one symbol.
-fn has_one_symbol(grammar: &Grammar, name: &NonterminalString) -> bool {
-    match grammar.nonterminals.get(name) {
-        None => false,
-        Some(data) => match data.productions.as_slice() {
-            [production] => production.symbols.as_slice().len() == 1,
-            _ => false,
-        },
-    }
 }

@@ -1,11 +1,19 @@
 //! The check of a grammar.
 
-ghost use Rattle.std.specs.Prelude.{◌≤◌, IfErr};
-ghost use Rattle.lp_valid.specs.Refusals.{NamesGrammarRule};
+ghost use Rattle.std.specs.Prelude.{◌≡◌, ◌+◌, ◌≤◌, map, IfOk, MatchResult};
+ghost use Rattle.std.specs.Map.Iter.{deref};
+ghost use Rattle.std.specs.Option.{option_map};
+ghost use Rattle.lp_repr.specs.Numbering.{productions_of};
+ghost use Rattle.lp_valid.specs.Places.{IsFirstFailing};
+ghost use Rattle.lp_valid.specs.Refusals.{RefusesGrammar};
+ghost use Rattle.lp_valid.specs.ValidGrammar.{GrammarRule, number, HoldsBelow, names, types, counts, fallibles, error_terminal, distinct_terminals, ActionsAreNamed, ParametersAreNamed, Says, IsValidGrammar};
 
 use crate::declared::Declared;
+use crate::repeats::failing_repeat;
+use crate::starts::failing_start;
 use crate::{actions, spelling, terminals};
-use lp_repr::repr::Grammar;
+use lp_repr::numbering::productions;
+use lp_repr::repr::{Grammar, Production};
 use std::alloc::{AllocError, Global};
 
 /// Why a grammar is refused.
@@ -51,26 +59,158 @@ impl From<AllocError> for GrammarFault {
 /// (terminals, then one). 10 Terminals are distinct (terminals). A thing that stands twice fails at
 /// its second place.
 pub fn check_grammar(alloc: Global, grammar: &Grammar) -> Result<(), GrammarFault>
-    ensures { IfErr result NamesGrammarRule }
+    ensures { MatchResult result (λ _. IsValidGrammar grammar.now) (RefusesGrammar grammar.now) }
 {
-    let declared = Declared::new(alloc, grammar)?;
-    passes(1, declared.failing_start(alloc)?)?;
-    passes(2, spelling::failing_name(grammar))?;
-    passes(3, spelling::failing_prefix(alloc, grammar)?)?;
-    passes(4, declared.failing_symbols(alloc)?)?;
-    passes(5, terminals::failing_type(grammar))?;
-    passes(6, actions::failing_count(&declared))?;
-    passes(7, actions::failing_circle(alloc, grammar)?)?;
-    passes(8, actions::failing_fallible(grammar))?;
-    passes(9, terminals::failing_error(grammar))?;
-    passes(10, terminals::failing_repeat(&declared))
+    let productions = productions(alloc, grammar)?;
+    check_symbols(alloc, grammar, &productions)?;
+    check_actions(alloc, grammar, &productions)
+}
+
+/// Checks the rules up to the fifth.
+fn check_symbols<'g>(
+    alloc: Global,
+    grammar: &'g Grammar,
+    productions: &[&'g Production],
+) -> Result<(), GrammarFault>
+    requires { map deref productions.now ≡ productions_of grammar.now }
+    ensures { MatchResult result (λ _. HoldsBelow grammar.now 6) (RefusesGrammar grammar.now) }
+{
+    let declared = Declared::new(alloc, grammar, productions)?;
+    passes(grammar, 1, failing_start(alloc, grammar, productions)?)?;
+    passes(grammar, 2, failing_names(grammar)?)?;
+    passes(grammar, 3, spelling::failing_prefix(alloc, grammar)?)?;
+    passes(grammar, 4, declared.failing_symbols(alloc)?)?;
+    passes(grammar, 5, failing_types(grammar)?)
+}
+
+/// Checks the rules from the sixth on.
+fn check_actions(
+    alloc: Global,
+    grammar: &Grammar,
+    productions: &[&Production],
+) -> Result<(), GrammarFault>
+    requires numbered { map deref productions.now ≡ productions_of grammar.now }
+    requires lesser { HoldsBelow grammar.now 6 }
+    ensures { MatchResult result (λ _. IsValidGrammar grammar.now) (RefusesGrammar grammar.now) }
+{
+    passes(grammar, 6, failing_counts(grammar, productions)?)?;
+    let actions = grammar.action_fn_defns.as_slice();
+    passes(grammar, 7, actions::failing_circle(alloc, actions)?)?;
+    passes(grammar, 8, failing_fallibles(grammar))?;
+    passes(grammar, 9, failing_error_terminal(grammar)?)?;
+    passes(grammar, 10, failing_distinct_terminals(alloc, grammar)?)
+}
+
+/// The first start, parameter or action with a name that it can't have; at last, whether the
+/// parameter of an interned grammar is missing.
+fn failing_names(grammar: &Grammar) -> Result<Option<usize>, AllocError>
+    ensures { IfOk result (IsFirstFailing (Says grammar.now names)) }
+{
+    if let Some(place) = spelling::failing_start_name(grammar) {
+        return Ok(Some(place));
+    }
+    let before = grammar.start_nonterminals.len();
+    after(before, failing_parameter_names(grammar)?)
+}
+
+fn failing_parameter_names(grammar: &Grammar) -> Result<Option<usize>, AllocError>
+    ensures { IfOk result (IsFirstFailing (ParametersAreNamed grammar.now)) }
+{
+    let parameters = grammar.parameters.as_slice();
+    if let Some(place) = spelling::failing_parameter_name(parameters) {
+        return Ok(Some(place));
+    }
+    after(parameters.len(), failing_action_names(grammar))
+}
+
+fn failing_action_names(grammar: &Grammar) -> Option<usize>
+    ensures { IsFirstFailing (ActionsAreNamed grammar.now) result }
+{
+    let actions = grammar.action_fn_defns.as_slice();
+    if let Some(place) = spelling::failing_argument_name(actions) {
+        return Some(place);
+    }
+    if spelling::has_input(grammar) {
+        return None;
+    }
+    Some(actions.len())
+}
+
+/// The first terminal, and then the first nonterminal, without a type; a terminal but the error
+/// terminal fails also without a pattern.
+fn failing_types(grammar: &Grammar) -> Result<Option<usize>, AllocError>
+    ensures { IfOk result (IsFirstFailing (Says grammar.now types)) }
+{
+    if let Some(place) = terminals::failing_terminal_type(grammar) {
+        return Ok(Some(place));
+    }
+    let before = grammar.terminals.all.as_slice().len();
+    after(before, terminals::failing_nonterminal_type(grammar))
+}
+
+/// The first production, and then the first action, with another count of symbols than is taken.
+fn failing_counts(
+    grammar: &Grammar,
+    productions: &[&Production],
+) -> Result<Option<usize>, AllocError>
+    requires { map deref productions.now ≡ productions_of grammar.now }
+    ensures { IfOk result (IsFirstFailing (Says grammar.now counts)) }
+{
+    let actions = grammar.action_fn_defns.as_slice();
+    if let Some(place) = actions::failing_production_count(actions, productions) {
+        return Ok(Some(place));
+    }
+    after(productions.len(), actions::failing_action_count(actions))
+}
+
+fn failing_fallibles(grammar: &Grammar) -> Option<usize>
+    ensures { IsFirstFailing (Says grammar.now fallibles) result }
+{
+    actions::failing_fallible(grammar.action_fn_defns.as_slice())
+}
+
+/// The first place but the last at which the error terminal stands; at last, whether it is the last
+/// terminal exactly where recovery is used.
+fn failing_error_terminal(grammar: &Grammar) -> Result<Option<usize>, AllocError>
+    ensures { IfOk result (IsFirstFailing (Says grammar.now error_terminal)) }
+{
+    let terminals = grammar.terminals.all.as_slice();
+    if let Some(place) = terminals::failing_error(terminals) {
+        return Ok(Some(place));
+    }
+    if terminals::ends_in_error(terminals) == grammar.uses_error_recovery {
+        return Ok(None);
+    }
+    Ok(Some(terminals.len()))
+}
+
+fn failing_distinct_terminals(alloc: Global, grammar: &Grammar) -> Result<Option<usize>, AllocError>
+    ensures { IfOk result (IsFirstFailing (Says grammar.now distinct_terminals)) }
+{
+    failing_repeat(alloc, grammar.terminals.all.as_slice())
+}
+
+/// The failing place of a list that stands after so many things. More things than there are numbers
+/// would want more memory than there is.
+fn after(before: usize, failing: Option<usize>) -> Result<Option<usize>, AllocError>
+    ensures { IfOk result (λ place. place ≡ option_map (λ p. before + p) failing) }
+{
+    match failing {
+        None => Ok(None),
+        Some(place) => match before.checked_add(place) {
+            None => Err(AllocError),
+            Some(sum) => Ok(Some(sum)),
+        },
+    }
 }
 
 /// Refuses where the rule has a failing place.
-fn passes(rule: u8, failing: Option<usize>) -> Result<(), GrammarFault>
+fn passes(_grammar: &Grammar, rule: u8, failing: Option<usize>) -> Result<(), GrammarFault>
     requires low { 1 ≤ rule }
     requires high { rule ≤ 10 }
-    ensures { IfErr result NamesGrammarRule }
+    requires lesser { HoldsBelow _grammar.now rule }
+    requires this { (r : GrammarRule) → number r ≡ rule → IsFirstFailing (Says _grammar.now r) failing }
+    ensures { MatchResult result (λ _. HoldsBelow _grammar.now (rule + 1)) (RefusesGrammar _grammar.now) }
 {
     match failing {
         None => Ok(()),

@@ -7,7 +7,9 @@ mod grammars;
 mod item_sets;
 mod names;
 mod prefixes;
+mod repeats;
 mod spelling;
+mod starts;
 mod tables;
 mod terminals;
 

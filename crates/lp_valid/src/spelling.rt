@@ -1,64 +1,77 @@
 //! The names of a grammar, and where its prefix stands in them.
 
+ghost use Rattle.std.specs.Prelude.{◌≡◌, not, position, codes};
+ghost use Rattle.std.specs.List.{list_any, list_all};
+ghost use Rattle.lp_repr.specs.Names.{same_text};
+ghost use Rattle.lp_valid.specs.NameRules.{start_has_names, is_parameter_name, is_argument_name, kind_has_names, has_input};
+
 use crate::grammars::from_place;
-use crate::names::{is_argument_pattern, is_identifier, is_parameter_name};
+use crate::names::{is_argument_name, is_identifier, is_parameter_name};
 use crate::prefixes::{Forbidden, is_clear};
-use lp_repr::consts::INPUT_PARAMETER;
-use lp_repr::repr::{ActionFnDefn, ActionFnDefnKind, Grammar, Types};
+use lp_repr::repr::{ActionFnDefn, ActionFnDefnKind, Grammar, NonterminalString, Parameter, Types};
 use lp_repr::{Items, Text};
 use std::alloc::{AllocError, Global};
 use std::collections::BTreeSet;
 
-/// The first start, parameter or action with a name that it can't have; at last, whether the
-/// parameter of an interned grammar is missing.
-pub(crate) fn failing_name(grammar: &Grammar) -> Option<usize> {
-    let starts = grammar.start_nonterminals.len();
-    let parameters = grammar.parameters.as_slice();
-    let actions = grammar.action_fn_defns.as_slice();
-    if let Some(place) = failing_start_name(grammar) {
-        return Some(place);
-    }
-    let failing = parameters
+/// The first start with a name that it can't have.
+pub(crate) fn failing_start_name(grammar: &Grammar) -> Option<usize>
+    ensures { result ≡ position (λ e. not (start_has_names e)) grammar.now.start_nonterminals.entries }
+{
+    grammar
+        .start_nonterminals
         .iter()
-        .position(|p| !is_parameter_name(p.name.as_str()));
-    if failing.is_some() {
-        return from_place(starts, failing);
-    }
-    let before = starts.saturating_add(parameters.len());
-    let failing = actions.iter().position(|a| !has_argument_names(a));
-    if failing.is_some() {
-        return from_place(before, failing);
-    }
-    if grammar.intern_token.is_some() && !has_input(grammar) {
-        return Some(before.saturating_add(actions.len()));
-    }
-    None
+        .position(|(public, start)| !start_has_names(public, start))
 }
 
-fn failing_start_name(grammar: &Grammar) -> Option<usize> {
-    for (place, (public, start)) in grammar.start_nonterminals.iter().enumerate() {
-        if !is_identifier(public.0.as_str()) || !is_identifier(start.0.as_str()) {
-            return Some(place);
-        }
-    }
-    None
+fn start_has_names(public: &NonterminalString, start: &NonterminalString) -> bool
+    ensures { result ≡ start_has_names (public.now, start.now) }
+{
+    is_identifier(public.0.as_str()) && is_identifier(start.0.as_str())
 }
 
-fn has_argument_names(action: &ActionFnDefn) -> bool {
-    match &action.kind {
-        ActionFnDefnKind::User { arg_patterns, .. } => arg_patterns
-            .as_slice()
-            .iter()
-            .all(|p| is_argument_pattern(p.as_str())),
-        _ => true,
-    }
-}
-
-fn has_input(grammar: &Grammar) -> bool {
-    let parameters = grammar.parameters.as_slice();
+/// The first parameter with a name that it can't have.
+pub(crate) fn failing_parameter_name(parameters: &[Parameter]) -> Option<usize>
+    ensures { result ≡ position (λ p. not (is_parameter_name p.name)) parameters.now }
+{
     parameters
         .iter()
-        .any(|p| p.name.as_str() == INPUT_PARAMETER)
+        .position(|p| !is_parameter_name(p.name.as_str()))
+}
+
+/// The first action with an argument name that it can't have.
+pub(crate) fn failing_argument_name(actions: &[ActionFnDefn]) -> Option<usize>
+    ensures { result ≡ position (λ a. not (kind_has_names a.kind)) actions.now }
+{
+    actions.iter().position(|a| !kind_has_names(&a.kind))
+}
+
+fn kind_has_names(kind: &ActionFnDefnKind) -> bool
+    ensures { result ≡ kind_has_names kind.now }
+{
+    match kind {
+        ActionFnDefnKind::User { arg_patterns, .. } => are_argument_names(arg_patterns.as_slice()),
+        ActionFnDefnKind::Lookaround(_) => true,
+        ActionFnDefnKind::Inline { .. } => true,
+    }
+}
+
+fn are_argument_names(patterns: &[Text]) -> bool
+    ensures { result ≡ list_all is_argument_name patterns.now }
+{
+    patterns.iter().all(|p| is_argument_name(p.as_str()))
+}
+
+/// Whether the grammar has its own tokens, or the parameter that an interned one needs.
+pub(crate) fn has_input(grammar: &Grammar) -> bool
+    ensures { result ≡ has_input grammar.now }
+{
+    grammar.intern_token.is_none() || names_input(grammar.parameters.as_slice())
+}
+
+fn names_input(parameters: &[Parameter]) -> bool
+    ensures { result ≡ list_any (λ p. same_text p.name (codes "input")) parameters.now }
+{
+    parameters.iter().any(|p| p.name.as_str() == "input")
 }
 
 /// The first place at which the prefix is missing or stands where it can't.
