@@ -1,0 +1,13 @@
+-- Moves after moves.
+use Rattle.std.proofs.Common.{◌≡◌, ℕ, zero, suc, ◌+◌, List, ap, ◌∙◌, arith}
+use Rattle.lp_repr.specs.declared.values.RunItem.{RunItem}
+use Rattle.lp_machine.specs.declared.config.Config.{Config}
+use Rattle.lp_machine.specs.Tables.{Tables}
+use Rattle.lp_machine.specs.Move.{move, moves}
+
+module _ (t : Tables) (items : List RunItem) where
+  pub moves_after : (a b : ℕ) (c : Config) → moves t items (a + b) c ≡ moves t items b (moves t items a c)
+  moves_after zero b c =
+      let e : zero + b ≡ b = omega arith in ap (λ n. moves t items n c) e
+  moves_after (suc a) b c =
+      let e : suc a + b ≡ suc (a + b) = omega arith in ap (λ n. moves t items n c) e ∙ moves_after a b (move t items c)
