@@ -5,16 +5,28 @@ use lp_plain::{
     BytesFault, ParseError, Span, build_states, lower, make_items, make_text, parse_grammar,
     plain_of, report_parse_error,
 };
+use std::alloc::Global;
 use std::test::Fail;
+
+/// The number of states of the first start of a file; none where one of the calls refuses it.
+fn state_count(alloc: Global, text: &str) -> Option<usize> {
+    let Ok(plain) = parse_grammar(alloc, text) else {
+        return None;
+    };
+    let Ok(grammar) = lower(alloc, &plain) else {
+        return None;
+    };
+    match build_states(alloc, &grammar, 0) {
+        Ok(states) => Some(states.len()),
+        Err(_) => None,
+    }
+}
 
 #[test]
 fn one_level_of_operators(rt: HostRuntime) -> Result<(), Fail> {
     let alloc = rt.alloc();
     let text = make_text(alloc, 1)?;
-    let plain = parse_grammar(alloc, text.as_str()).map_err(|_| "read")?;
-    let grammar = lower(alloc, &plain).map_err(|_| "lowered")?;
-    let states = build_states(alloc, &grammar, 0).map_err(|_| "built")?;
-    assert_eq!(rt; states.len(), 16);
+    assert_eq!(rt; state_count(alloc, text.as_str()), Some(16));
     assert_eq!(rt; make_items(alloc, 1)?.len(), 3);
     Ok(())
 }
@@ -23,8 +35,10 @@ fn one_level_of_operators(rt: HostRuntime) -> Result<(), Fail> {
 fn the_prefix_is_lengthened(rt: HostRuntime) -> Result<(), Fail> {
     let alloc = rt.alloc();
     let text = file(alloc, "pub S: () = \"a\" => a___b;")?;
-    let plain = parse_grammar(alloc, text.as_str()).map_err(|_| "read")?;
-    assert_eq!(rt; plain.prefix.as_str(), "____");
+    match parse_grammar(alloc, text.as_str()) {
+        Ok(plain) => assert_eq!(rt; plain.prefix.as_str(), "____"),
+        Err(_) => assert!(rt; false),
+    }
     Ok(())
 }
 

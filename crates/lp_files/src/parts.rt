@@ -1,6 +1,7 @@
 //! Types, clauses and patterns, as they are shown again.
 
 use lp_plain::{Top, parse_top};
+use lp_repr::repr::{TokenPattern, WhereClause};
 use lp_tok::Tok;
 use std::alloc::Global;
 use std::test::Fail;
@@ -37,16 +38,23 @@ fn types(rt: HostRuntime) -> Result<(), Fail> {
     Ok(())
 }
 
+/// The clauses that a text spells.
+fn clauses_of(alloc: Global, text: &str) -> Option<Vec<WhereClause>> {
+    match parse_top(alloc, Tok::StartGrammarWhereClauses, text, 0) {
+        Ok(Top::GrammarWhereClauses(clauses)) => Some(clauses),
+        _ => None,
+    }
+}
+
 /// How the clauses are shown that a text spells.
 fn shown_clauses(alloc: Global, text: &str) -> Result<String, Fail> {
     let mut shown = String::new(alloc);
-    match parse_top(alloc, Tok::StartGrammarWhereClauses, text, 0) {
-        Ok(Top::GrammarWhereClauses(clauses)) => {
-            for clause in &clauses {
-                write!(shown, "{clause}; ")?;
-            }
-        }
-        _ => shown.push_str("refused")?,
+    let Some(clauses) = clauses_of(alloc, text) else {
+        shown.push_str("refused")?;
+        return Ok(shown);
+    };
+    for clause in &clauses {
+        write!(shown, "{clause}; ")?;
     }
     Ok(shown)
 }
@@ -78,19 +86,26 @@ fn where_clauses(rt: HostRuntime) -> Result<(), Fail> {
     Ok(())
 }
 
-/// The pieces of a pattern with its holes' types between them.
+/// The pattern that a text spells.
+fn pattern_of(alloc: Global, text: &str) -> Option<TokenPattern> {
+    match parse_top(alloc, Tok::StartPattern, text, 0) {
+        Ok(Top::Pattern(pattern)) => Some(pattern),
+        _ => None,
+    }
+}
+
+/// The pieces of a pattern with `#` for each hole.
 fn shown_pattern(alloc: Global, text: &str) -> Result<String, Fail> {
     let mut shown = String::new(alloc);
-    match parse_top(alloc, Tok::StartPattern, text, 0) {
-        Ok(Top::Pattern(pattern)) => {
-            for (number, piece) in pattern.pieces.as_slice().iter().enumerate() {
-                if number > 0 {
-                    shown.push_str("#")?;
-                }
-                shown.push_str(piece.as_str())?;
-            }
+    let Some(pattern) = pattern_of(alloc, text) else {
+        shown.push_str("refused")?;
+        return Ok(shown);
+    };
+    for (number, piece) in pattern.pieces.as_slice().iter().enumerate() {
+        if number > 0 {
+            shown.push_str("#")?;
         }
-        _ => shown.push_str("refused")?,
+        shown.push_str(piece.as_str())?;
     }
     Ok(shown)
 }
