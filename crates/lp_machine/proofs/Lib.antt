@@ -1,4 +1,5 @@
 pub mod MoreMoves
 pub mod ExpectedLists
 pub mod RecoveryChoice
+pub mod Inlining
 pub mod Params

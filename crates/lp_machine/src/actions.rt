@@ -5,7 +5,7 @@ ghost use Rattle.std.specs.Option.{option_copied};
 ghost use Rattle.std.specs.List.{list_any};
 ghost use Rattle.lp_driver.specs.Values.{value_of};
 ghost use Rattle.lp_driver.specs.RecoveryTurns.{start_or, end_or};
-ghost use Rattle.lp_machine.specs.ActionMeaning.{place_of, inlined_start, inlined_end, inlined_span, call_result, user_call, gives};
+ghost use Rattle.lp_machine.specs.ActionMeaning.{act, place_of, inlined_start, inlined_end, inlined_span, inline_from, call_result, user_call, gives, meaning_at};
 
 use crate::calls::{Acted, Call};
 use crate::lists::{append, back, front, none, number_after, plus, push};
@@ -174,7 +174,9 @@ impl Actions<'_> {
         args: &[Triple],
         place: (Loc, Loc),
         n: u64,
-    ) -> Result<Acted, AllocError> {
+    ) -> Result<Acted, AllocError>
+        ensures { IfOk result (λ acted. acted ≡ act self.now.params self.now.failing.now depth self.now.actions.now action args.now place n) }
+    {
         if depth == 0 {
             return Ok(gives(alloc, Term::Location(place.0)));
         }
@@ -191,7 +193,9 @@ impl Actions<'_> {
         args: &[Triple],
         place: (Loc, Loc),
         n: u64,
-    ) -> Result<Acted, AllocError> {
+    ) -> Result<Acted, AllocError>
+        ensures { IfOk result (λ acted. acted ≡ meaning_at self.now.params self.now.failing.now (act self.now.params self.now.failing.now depth self.now.actions.now) (option_copied definition.entry) args.now place n) }
+    {
         let Some(definition) = definition else {
             return Ok(gives(alloc, Term::Location(place.0)));
         };
@@ -223,7 +227,9 @@ impl Actions<'_> {
         i: usize,
         at: (Loc, Loc),
         n: u64,
-    ) -> Result<Acted, AllocError> {
+    ) -> Result<Acted, AllocError>
+        ensures { IfOk result (λ acted. acted ≡ act self.now.params self.now.failing.now depth self.now.actions.now action (take k (drop i args.now)) at n) }
+    {
         self.act(alloc, depth, action, share(args, i, k), at, n)
     }
 
@@ -239,7 +245,9 @@ impl Actions<'_> {
         args: &[Triple],
         place: (Loc, Loc),
         n: u64,
-    ) -> Result<Acted, AllocError> {
+    ) -> Result<Acted, AllocError>
+        ensures { IfOk result (λ acted. acted ≡ inline_from (act self.now.params self.now.failing.now depth self.now.actions.now) outer args.now place 0 [] n symbols.now) }
+    {
         let mut i: usize = 0;
         let mut given = none(alloc);
         let mut calls = none(alloc);
