@@ -23,10 +23,10 @@ fn conflict_at_the_end(rt: HostRuntime) -> Result<(), Fail> {
     let rules = "pub S: () = { \"a\" => (), A => () };\nA: () = \"a\" => ();\n";
     let file = format!(in rt.alloc(); "{HEAD}{rules}")?;
     let report = refuses(&rt, rt.alloc(), &["run"], file.as_str(), 3)?;
-    match report.status {
+    match &report.status {
         Status::Conflict { start, path, token } => {
-            assert_eq!(rt; start, 0);
-            assert!(rt; token == Token::Eof);
+            assert_eq!(rt; *start, 0);
+            assert!(rt; *token == Token::Eof);
             match path.as_slice() {
                 [Symbol::Terminal(TerminalString::Quoted(text))] => assert_eq!(rt;
                     text.as_str(),
