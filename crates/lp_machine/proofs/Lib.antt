@@ -1,0 +1,4 @@
+pub mod MoreMoves
+pub mod ExpectedLists
+pub mod RecoveryChoice
+pub mod Inlining

@@ -1,0 +1,14 @@
+pub mod ActionMeaning
+pub mod ReductionSpan
+pub mod Tables
+pub mod Lookup
+pub mod ExpectedList
+pub mod StackMachine
+pub mod Recovery
+pub mod Moves
+pub mod Move
+pub mod TablesView
+pub mod GrammarTables
+pub mod MachineRun
+pub mod ExpectedLaw
+pub mod RecoveryLaw

@@ -1,0 +1,376 @@
+//! Which move of the stack machine is left in a configuration.
+
+ghost use Rattle.std.specs.Prelude.{◌≡◌, ℕ, Some, None, length, IfOk};
+ghost use Rattle.lp_machine.specs.TablesView.{tables_of};
+ghost use Rattle.lp_machine.specs.ReductionSpan.{empty_place};
+ghost use Rattle.lp_machine.specs.StackMachine.{over, failure_at, lookahead_start, lookahead_token, lookahead_terminal, result_at};
+ghost use Rattle.lp_machine.specs.Moves.{valued, called, calls_next, acted, looks, reducible, asks_error, completes, tries_next, errs, no_action, does, asks, ready, first};
+
+use crate::actions::end_or;
+use crate::calls::{Acted, Call};
+use crate::compiled::Compiled;
+use crate::config::{Config, Left, Listing, Lookahead, Mending, go_on, mend};
+use crate::lists::{popped, push, top};
+use crate::lookup::{Act, Rule};
+use crate::terms::{Symbol, copied_token};
+use crate::verdict::names_with_action;
+use lp_driver::Expecting;
+use lp_repr::text::{Items, Text};
+use lp_repr::values::{Loc, ParseError, RunItem, RunParseError, SpannedToken};
+use std::alloc::{AllocError, Global};
+
+type Triple = (Loc, Symbol, Loc);
+
+/// What a machine runs on.
+#[derive(Drop)]
+pub struct Input<'g> {
+    pub tables: Compiled<'g>,
+    pub items: &'g [RunItem],
+}
+
+/// The run ends so.
+pub fn over(config: &mut Config, ending: Result<Symbol, RunParseError>)
+    ensures { config.new ≡ over config.old ending }
+{
+    go_on(config, Left::Over(ending));
+}
+
+// The error at a token, or at the end.
+fn failure_at(last: Loc, token: Option<SpannedToken>, expected: Items<Text>) -> RunParseError
+    ensures { result ≡ failure_at last token expected }
+{
+    match token {
+        None => ParseError::UnrecognizedEof {
+            location: last,
+            expected,
+        },
+        Some(token) => ParseError::UnrecognizedToken { token, expected },
+    }
+}
+
+/// Where the lookahead starts.
+pub fn lookahead_start(lookahead: &Option<Lookahead>) -> Option<Loc>
+    ensures { result ≡ lookahead_start lookahead.now }
+{
+    match lookahead {
+        None => None,
+        Some(l) => Some(l.token.0),
+    }
+}
+
+/// The number of the lookahead's terminal.
+pub fn lookahead_terminal(lookahead: &Option<Lookahead>) -> Option<usize>
+    ensures { result ≡ lookahead_terminal lookahead.now }
+{
+    match lookahead {
+        None => None,
+        Some(l) => Some(l.index),
+    }
+}
+
+// A copy of the lookahead's token.
+fn lookahead_token(
+    alloc: Global,
+    lookahead: &Option<Lookahead>,
+) -> Result<Option<SpannedToken>, AllocError>
+    ensures { IfOk result (λ token. token ≡ lookahead_token lookahead.now) }
+{
+    match lookahead {
+        None => Ok(None),
+        Some(l) => Ok(Some(copied_token(alloc, &l.token)?)),
+    }
+}
+
+/// Where an empty reduction stands.
+pub fn empty_place(start: Option<Loc>, triples: &[Triple]) -> Loc
+    ensures { result ≡ empty_place start triples.now }
+{
+    match start {
+        Some(at) => at,
+        None => end_or(triples.last(), Loc::Default),
+    }
+}
+
+// A result before the end of the items is one token too much; while an error is mended it stands.
+fn result_at(
+    alloc: Global,
+    mending: &Option<Mending>,
+    lookahead: &Option<Lookahead>,
+    value: Symbol,
+) -> Result<Result<Symbol, RunParseError>, AllocError>
+    ensures { IfOk result (λ r. r ≡ result_at mending.now lookahead.now value) }
+{
+    match mending {
+        Some(_) => Ok(Ok(value)),
+        None => match lookahead {
+            None => Ok(Ok(value)),
+            Some(l) => Ok(Err(ParseError::ExtraToken {
+                token: copied_token(alloc, &l.token)?,
+            })),
+        },
+    }
+}
+
+impl Input<'_> {
+    // A reduction whose action gave a value: the start's ends the run.
+    fn valued(&self, config: &mut Config, rule: Rule, value: Symbol) -> Result<(), AllocError>
+        ensures { IfOk result (λ _. config.new ≡ valued (tables_of self.now.tables) self.now.items.now config.old rule value) }
+    {
+        if rule.is_start {
+            let alloc = self.tables.alloc;
+            let ending = result_at(alloc, &config.mending, &config.lookahead, value)?;
+            over(config, ending);
+        } else {
+            go_on(config, Left::Reduces(rule, value));
+        }
+        Ok(())
+    }
+
+    // A reduction whose calls are made.
+    fn called(
+        &self,
+        config: &mut Config,
+        rule: Rule,
+        ending: Result<Symbol, RunParseError>,
+    ) -> Result<(), AllocError>
+        ensures { IfOk result (λ _. config.new ≡ called (tables_of self.now.tables) self.now.items.now config.old rule ending) }
+    {
+        match ending {
+            Ok(value) => self.valued(config, rule, value),
+            Err(error) => {
+                over(config, Err(error));
+                Ok(())
+            }
+        }
+    }
+
+    /// A reduction with these calls to make, which then ends so.
+    pub fn calls_next(
+        &self,
+        config: &mut Config,
+        rule: Rule,
+        calls: Items<Call>,
+        ending: Result<Symbol, RunParseError>,
+    ) -> Result<(), AllocError>
+        ensures { IfOk result (λ _. config.new ≡ calls_next (tables_of self.now.tables) self.now.items.now config.old rule calls ending) }
+    {
+        if calls.as_slice().is_empty() {
+            return self.called(config, rule, ending);
+        }
+        go_on(config, Left::Calls(rule, calls, ending));
+        Ok(())
+    }
+
+    // What the action of a reduction does.
+    fn acted(&self, config: &Config, rule: Rule) -> Result<Acted, AllocError>
+        ensures { IfOk result (λ x. x ≡ acted (tables_of self.now.tables) self.now.items.now config.now rule) }
+    {
+        let actions = &self.tables.actions;
+        let empty = empty_place(
+            lookahead_start(&config.lookahead),
+            config.triples.as_slice(),
+        );
+        let args = popped(&config.triples, rule.length);
+        let depth = actions.actions.len();
+        let n = config.calls.as_slice().len() as u64;
+        actions.act(
+            self.tables.alloc,
+            depth,
+            rule.action,
+            args,
+            (empty, empty),
+            n,
+        )
+    }
+
+    // A reduction, once its symbols are known to be there.
+    fn reduces_by(&self, config: &mut Config, rule: Rule) -> Result<(), AllocError>
+        ensures { IfOk result (λ _. config.new ≡ calls_next (tables_of self.now.tables) self.now.items.now config.old rule (acted (tables_of self.now.tables) self.now.items.now config.old rule).calls (acted (tables_of self.now.tables) self.now.items.now config.old rule).result) }
+    {
+        let done = self.acted(config, rule)?;
+        self.calls_next(config, rule, done.calls, done.result)
+    }
+
+    /// No more reductions of an error: the longest prefix of the stack is looked at.
+    pub fn looks(&self, config: &mut Config)
+        ensures { config.new ≡ looks (tables_of self.now.tables) self.now.items.now config.old }
+    {
+        go_on(config, Left::Looks(config.states.as_slice().len()));
+    }
+
+    // The rule of a production, where its symbols are on the stack.
+    fn reducible(&self, config: &Config, production: usize) -> Option<Rule>
+        ensures { result ≡ reducible (tables_of self.now.tables) self.now.items.now config.now production }
+    {
+        match self.tables.rule(production) {
+            None => None,
+            Some(rule) => {
+                if config.triples.as_slice().len() < rule.length {
+                    None
+                } else {
+                    Some(rule)
+                }
+            }
+        }
+    }
+
+    // The reductions that the error terminal triggers.
+    fn asks_error(&self, config: &mut Config) -> Result<(), AllocError>
+        ensures { IfOk result (λ _. config.new ≡ asks_error (tables_of self.now.tables) self.now.items.now config.old) }
+    {
+        let state = top(config.states.as_slice());
+        match self.tables.action_on_error(state) {
+            Act::ReduceBy(p) => match self.reducible(config, p) {
+                Some(rule) => return self.reduces_by(config, rule),
+                None => self.looks(config),
+            },
+            Act::Shift(_) => self.looks(config),
+            Act::NoAction => self.looks(config),
+        }
+        Ok(())
+    }
+
+    // An error with its expected list is to be mended, or ends the run.
+    fn completes(&self, config: &mut Config, listing: Listing) -> Result<(), AllocError>
+        ensures { IfOk result (λ _. config.new ≡ completes (tables_of self.now.tables) self.now.items.now config.old listing) }
+    {
+        let Listing {
+            token,
+            mends,
+            found,
+        } = listing;
+        let error = failure_at(config.last, token, found);
+        if !mends {
+            over(config, Err(error));
+            return Ok(());
+        }
+        let dropped = Items::new(self.tables.alloc);
+        mend(config, Mending { error, dropped });
+        self.asks_error(config)
+    }
+
+    /// The next terminal is to be tried, or the list is complete.
+    pub fn tries_next(
+        &self,
+        config: &mut Config,
+        listing: Listing,
+        i: usize,
+    ) -> Result<(), AllocError>
+        ensures { IfOk result (λ _. config.new ≡ tries_next (tables_of self.now.tables) self.now.items.now config.old listing i) }
+    {
+        if i < self.tables.terminals.len() {
+            go_on(config, Left::Tries(listing, i));
+            return Ok(());
+        }
+        self.completes(config, listing)
+    }
+
+    /// An error at a token, or at the end.
+    pub fn errs(
+        &self,
+        config: &mut Config,
+        token: Option<SpannedToken>,
+        mends: bool,
+    ) -> Result<(), AllocError>
+        ensures { IfOk result (λ _. config.new ≡ errs (tables_of self.now.tables) self.now.items.now config.old token mends) }
+    {
+        match self.tables.expecting {
+            Expecting::Trial => {
+                let found = Items::new(self.tables.alloc);
+                let listing = Listing {
+                    token,
+                    mends,
+                    found,
+                };
+                self.tries_next(config, listing, 0)
+            }
+            Expecting::Actions => {
+                let state = top(config.states.as_slice());
+                let found = names_with_action(&self.tables, state)?;
+                let listing = Listing {
+                    token,
+                    mends,
+                    found,
+                };
+                self.completes(config, listing)
+            }
+        }
+    }
+
+    /// The top state has no action.
+    pub fn no_action(&self, config: &mut Config) -> Result<(), AllocError>
+        ensures { IfOk result (λ _. config.new ≡ no_action (tables_of self.now.tables) self.now.items.now config.old) }
+    {
+        let token = lookahead_token(self.tables.alloc, &config.lookahead)?;
+        self.errs(config, token, self.tables.error.is_some())
+    }
+
+    fn does(&self, config: &mut Config, act: Act) -> Result<(), AllocError>
+        ensures { IfOk result (λ _. config.new ≡ does (tables_of self.now.tables) self.now.items.now config.old act) }
+    {
+        match act {
+            Act::NoAction => self.no_action(config),
+            Act::Shift(to) => {
+                go_on(config, Left::Shifts(to));
+                Ok(())
+            }
+            Act::ReduceBy(p) => match self.reducible(config, p) {
+                None => self.no_action(config),
+                Some(rule) => self.reduces_by(config, rule),
+            },
+        }
+    }
+
+    /// What the top state does on the lookahead or at the end, or on an error that is mended.
+    pub fn asks(&self, config: &mut Config) -> Result<(), AllocError>
+        ensures { IfOk result (λ _. config.new ≡ asks (tables_of self.now.tables) self.now.items.now config.old) }
+    {
+        match &config.mending {
+            Some(_) => self.asks_error(config),
+            None => {
+                let terminal = lookahead_terminal(&config.lookahead);
+                let state = top(config.states.as_slice());
+                let act = self.tables.action_on(state, terminal);
+                self.does(config, act)
+            }
+        }
+    }
+
+    /// With no token in hand the next item is to be taken.
+    pub fn ready(&self, config: &mut Config) -> Result<(), AllocError>
+        ensures { IfOk result (λ _. config.new ≡ ready (tables_of self.now.tables) self.now.items.now config.old) }
+    {
+        match &config.lookahead {
+            Some(_) => self.asks(config),
+            None => {
+                if config.taken < self.items.len() {
+                    go_on(config, Left::Pulls);
+                    Ok(())
+                } else {
+                    self.asks(config)
+                }
+            }
+        }
+    }
+
+    /// Before any move.
+    pub fn first(&self) -> Result<Config, AllocError>
+        ensures { IfOk result (λ c. c ≡ first (tables_of self.now.tables) self.now.items.now) }
+    {
+        let alloc = self.tables.alloc;
+        let mut states = Items::new(alloc);
+        push(&mut states, 0)?;
+        let mut config = Config {
+            states,
+            triples: Items::new(alloc),
+            lookahead: None,
+            mending: None,
+            taken: 0,
+            last: Loc::Default,
+            calls: Items::new(alloc),
+            left: Left::Pulls,
+        };
+        self.ready(&mut config)?;
+        Ok(config)
+    }
+}
