@@ -2,6 +2,7 @@
 use Rattle.std.proofs.Common.{◌≡◌, ℕ, zero, suc, ◌+◌, ◌<◌, ◌≤◌, Bool, true, false, List, [], ◌∷◌, ◌++◌, length, drop, Option, Some, None, refl, sym, ap, ◌∙◌, subst, append_assoc, arith}
 use Rattle.std.specs.Prelude.{slice_get, nat_lt, if◌then◌else◌}
 use Rattle.std.proofs.lemmas.Bool.{le-ltb}
+use Rattle.std.proofs.lemmas.List.{append-nil}
 use Rattle.std.proofs.lemmas.Bool.Decides.{nat_tests}
 use Rattle.lp_repr.specs.declared.values.RunItem.{RunItem}
 use Rattle.lp_driver.specs.Values.{Text}
@@ -107,7 +108,7 @@ module _ (t : Tables) where
         let e : name ∷ l ≡ found = cc in
         let begin : tries_next t items c listing i ≡ with_left c (Tries listing i) = chosen (nat_lt i (length t.names)) true _ _ (within i (length t.names) lt) in (
           suc (r.0 + s.0),
-          ap (moves t items (suc (r.0 + s.0))) begin ∙ moves_after t items r.0 s.0 _ ∙ ap (moves t items s.0) r.1 ∙ s.1 ∙ ap (λ f. completes t items c (record listing { found = f })) (append_assoc ∙ ap (λ f. listing.found ++ f) e),
+          ap (moves t items (suc (r.0 + s.0))) begin ∙ moves_after t items r.0 s.0 _ ∙ ap (moves t items s.0) r.1 ∙ s.1 ∙ ap (λ f. completes t items c (record listing { found = f })) (append_assoc listing.found (name ∷ []) l ∙ ap (λ f. listing.found ++ f) e),
         )
     one_listed n i listing name No tried found lt at says h more =
         let r = no_leads n i listing (verdict t c.states (Some i)) says in
@@ -119,7 +120,7 @@ module _ (t : Tables) where
     pub all_listed : (n i : ℕ) (listing : Listing) (names found : List Text) → drop i t.names ≡ names → names_tried t n c.states i names ≡ Some found → Lists i listing found
     all_listed n i listing [] found at h =
         let e : [] ≡ found = cc in
-        (0, chosen (nat_lt i (length t.names)) false _ _ (le-ltb i (length t.names) (past_place t.names i at)) ∙ ap (λ f. completes t items c (record listing { found = f })) (grind arith))
+        (0, chosen (nat_lt i (length t.names)) false _ _ (le-ltb i (length t.names) (past_place t.names i at)) ∙ ap (λ f. completes t items c (record listing { found = f })) (sym (append-nil listing.found) ∙ ap (λ f. listing.found ++ f) e))
     all_listed n i listing (name ∷ names) found at h =
         let place = at_place t.names i name names at in
         one_listed n i listing name (says_after t n (Some i) (verdict t c.states (Some i))) (names_tried t n c.states (i + 1) names) found place.2 place.0 refl h (λ other l e. all_listed n (i + 1) other names l place.1 e)

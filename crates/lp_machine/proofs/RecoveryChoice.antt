@@ -89,13 +89,13 @@ module _ (t : Tables) (items : List RunItem) where
     begins (suc k) = (0, refl)
 
   leads_to : (n : ℕ) (c : Config) (d : ℕ) (end : Config) → Recovers t items n c d end → Leads (looks t items c) end
-  leads_to n c d end (Mends c place to longest is) =
+  leads_to n _ _ _ (Mends c place to longest is) =
       then_leads (looks t items c) (looks_below t items (with_left c Pulls) (length c.states)) _ (begins c (length c.states)) (longest_below c n (length c.states) place to longest is)
-  leads_to n c d end (Stands c mending none is ends) =
+  leads_to n _ _ _ (Stands c mending none is ends) =
       let stands : drops_or t items (with_left c Pulls) c.mending c.lookahead ≡ over (with_left c Pulls) (Err mending.error) = ap (λ l. drops_or t items (with_left c Pulls) c.mending l) ends ∙ ap (λ o. drops_or t items (with_left c Pulls) o None) is in
       let f = then_leads (looks t items c) (looks_below t items (with_left c Pulls) (length c.states)) _ (begins c (length c.states)) (none_below c n (length c.states) none) in
       (f.0, f.1 ∙ stands)
-  leads_to n c d end (Drops c next end d' l none is after more) =
+  leads_to n _ _ _ (Drops c next end d' l none is after more) =
       let drops : drops_or t items (with_left c Pulls) c.mending c.lookahead ≡ drops_or t items (with_left c Pulls) c.mending (Some l) = ap (λ o. drops_or t items (with_left c Pulls) c.mending o) is in
       let f = then_leads (looks t items c) (looks_below t items (with_left c Pulls) (length c.states)) _ (begins c (length c.states)) (none_below c n (length c.states) none) in
       let g = leads_to n next d' end more in

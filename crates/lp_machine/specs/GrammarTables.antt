@@ -1,5 +1,5 @@
 -- What a machine looks up in a grammar: its productions, terminals and parameters by number.
-use Rattle.std.specs.Prelude.{ℕ, ◌+◌, List, [], ◌∷◌, ◌++◌, map, length, Option, Some, None, Bool, true, false, position, is_some, if◌then◌else◌}
+use Rattle.std.specs.Prelude.{ℕ, ◌+◌, List, [], ◌∷◌, ◌++◌, map, length, Option, Some, None, Bool, true, false, position, is_some, slice_get, if◌then◌else◌}
 use Rattle.std.specs.List.{list_any}
 use Rattle.std.specs.BTreeMap.{get, values}
 use Rattle.std.specs.declared.cmp.Ordering.{Ordering}
@@ -62,11 +62,15 @@ is_error Error = true
 abbrev pub error_of : Grammar → Option ℕ
 error_of g = if g.uses_error_recovery then position is_error g.terminals.all else None
 
--- the value of the last parameter of a name, else this
-abbrev pub last_named : List Parameter → List Text → Text → Option Text → Option Text
-last_named [] values name found = found
-last_named (p ∷ ps) [] name found = found
-last_named (p ∷ ps) (v ∷ values) name found = last_named ps values name (if same_text p.name name then Some v else found)
+abbrev pub is_named : Option Parameter → Text → Bool
+is_named None name = false
+is_named (Some p) name = same_text p.name name
+
+-- of these values, whose numbers begin with i, the last one whose parameter has this name, else found
+abbrev pub last_named : List Parameter → Text → ℕ → List Text → Option Text → Option Text
+last_named names name i [] found = found
+last_named names name i (value ∷ values) found =
+    last_named names name (i + 1) values (if is_named (slice_get names i) name then Some value else found)
 
 abbrev pub or_nothing : Option Text → List Text
 or_nothing None = []
@@ -76,7 +80,7 @@ or_nothing (Some text) = text ∷ []
 -- for both
 abbrev pub params_among : List Parameter → List Text → List Parameter → List Text
 params_among all values [] = []
-params_among all values (p ∷ ps) = or_nothing (last_named all values p.name None) ++ params_among all values ps
+params_among all values (p ∷ ps) = or_nothing (last_named all p.name 0 values None) ++ params_among all values ps
 
 -- the tables of a grammar and its states, with the values of its parameters and the calls that are
 -- to fail

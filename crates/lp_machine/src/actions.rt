@@ -1,13 +1,14 @@
 //! What an action does: the calls of user code that it makes, and what it gives.
 
-ghost use Rattle.std.specs.Prelude.{◌≡◌, ℕ, ◌+◌, ◌-◌, ◌^◌, ◌<◌, ◌≤◌, ◌++◌, [], length, take, drop, IfOk, string_bytes, slice_get};
+ghost use Rattle.std.specs.Prelude.{◌≡◌, ◌==◌, ℕ, ◌+◌, ◌-◌, ◌^◌, ◌<◌, ◌≤◌, ◌++◌, [], length, take, drop, IfOk, string_bytes, slice_get};
 ghost use Rattle.std.specs.Option.{option_copied};
+ghost use Rattle.std.specs.List.{list_any};
 ghost use Rattle.lp_driver.specs.Values.{value_of};
 ghost use Rattle.lp_driver.specs.RecoveryTurns.{start_or, end_or};
-ghost use Rattle.lp_machine.specs.ActionMeaning.{act, place_of, inlined_span, inline_from, call_result, user_call, gives};
+ghost use Rattle.lp_machine.specs.ActionMeaning.{act, place_of, inlined_start, inlined_end, inlined_span, inline_from, call_result, user_call, gives, meaning_at};
 
 use crate::calls::{Acted, Call};
-use crate::lists::{append, back, front, number_after, plus, push};
+use crate::lists::{append, back, front, none, number_after, plus, push};
 use crate::terms::{Symbol, copied_texts, copied_triples};
 use lp_repr::norm;
 use lp_repr::repr::{ActionFnDefn, ActionFnDefnKind, InlinedSymbol, LookaroundActionFn};
@@ -51,41 +52,65 @@ pub fn end_or(triple: Option<&Triple>, otherwise: Loc) -> Loc
     }
 }
 
-// Where an inlined symbol with k of the flat arguments stands, from number i on.
+// Where an inlined symbol with k of the flat arguments starts, from number i on.
+fn inlined_start(args: &[Triple], i: usize, k: usize, otherwise: Loc) -> Loc
+    ensures { result ≡ inlined_start args.now i k otherwise }
+{
+    if k == 0 {
+        if i == 0 {
+            start_or(args.get(0), otherwise)
+        } else {
+            end_or(args.get(i - 1), otherwise)
+        }
+    } else {
+        start_or(args.get(i), otherwise)
+    }
+}
+
+// Where it ends.
+fn inlined_end(args: &[Triple], i: usize, k: usize, otherwise: Loc) -> Loc
+    requires { i + k < 2 ^ 64 }
+    ensures { result ≡ inlined_end args.now i k otherwise }
+{
+    if k == 0 {
+        start_or(args.get(i), end_or(args.last(), otherwise))
+    } else {
+        end_or(args.get(i + k - 1), otherwise)
+    }
+}
+
 fn inlined_span(args: &[Triple], i: usize, k: usize, place: (Loc, Loc)) -> (Loc, Loc)
     requires { i + k < 2 ^ 64 }
     ensures { result ≡ inlined_span args.now i k place }
 {
-    if k == 0 {
-        let start = if i == 0 {
-            start_or(args.first(), place.0)
-        } else {
-            end_or(args.get(i - 1), place.0)
-        };
-        let end = start_or(args.get(i), end_or(args.last(), place.1));
-        return (start, end);
-    }
-    let start = start_or(args.get(i), place.0);
-    let end = end_or(args.get(i + k - 1), place.1);
+    let start = inlined_start(args, i, k, place.0);
+    let end = inlined_end(args, i, k, place.1);
     (start, end)
+}
+
+fn is_listed(failing: &[u64], n: u64) -> bool
+    ensures { result ≡ list_any (λ k. k == n) failing.now }
+{
+    failing.iter().any(|k| *k == n)
 }
 
 fn call_result(failing: &[u64], fallible: bool, n: u64) -> Result<Symbol, RunParseError>
     ensures { result ≡ call_result failing.now fallible n }
 {
-    if fallible && failing.iter().any(|k| *k == n) {
-        return Err(ParseError::User {
+    if fallible && is_listed(failing, n) {
+        Err(ParseError::User {
             error: UserError::Call(n),
-        });
+        })
+    } else {
+        Ok(Symbol::new(Term::Result(n)))
     }
-    Ok(Symbol::new(Term::Result(n)))
 }
 
 fn gives(alloc: Global, term: Term) -> Acted
     ensures { result ≡ gives (value_of term) }
 {
     Acted {
-        calls: Items::new(alloc),
+        calls: none(alloc),
         result: Ok(Symbol::new(term)),
     }
 }
@@ -149,7 +174,23 @@ impl Actions<'_> {
         if depth == 0 {
             return Ok(gives(alloc, Term::Location(place.0)));
         }
-        let Some(definition) = self.actions.get(action) else {
+        self.meaning_at(alloc, depth - 1, self.actions.get(action), args, place, n)
+    }
+
+    // What an action does, where it is there.
+    #[cycle(act)]
+    fn meaning_at(
+        &self,
+        alloc: Global,
+        depth: usize,
+        definition: Option<&ActionFnDefn>,
+        args: &[Triple],
+        place: (Loc, Loc),
+        n: u64,
+    ) -> Result<Acted, AllocError>
+        ensures { IfOk result (λ acted. acted ≡ meaning_at self.now.params self.now.failing.now (act self.now.params self.now.failing.now depth self.now.actions.now) (option_copied definition.entry) args.now place n) }
+    {
+        let Some(definition) = definition else {
             return Ok(gives(alloc, Term::Location(place.0)));
         };
         match &definition.kind {
@@ -163,15 +204,7 @@ impl Actions<'_> {
                 Ok(gives(alloc, Term::Location(place.0)))
             }
             ActionFnDefnKind::Inline { action, symbols } => {
-                self.inline(
-                    alloc,
-                    depth - 1,
-                    *action,
-                    symbols.as_slice(),
-                    args,
-                    place,
-                    n,
-                )
+                self.inline(alloc, depth, *action, symbols.as_slice(), args, place, n)
             }
         }
     }
@@ -191,9 +224,9 @@ impl Actions<'_> {
     ) -> Result<Acted, AllocError>
         ensures { IfOk result (λ acted. acted ≡ inline_from (act self.now.params self.now.failing.now depth self.now.actions.now) outer args.now place 0 [] n symbols.now) }
     {
-        let mut i = 0;
-        let mut given = Items::new(alloc);
-        let mut calls = Items::new(alloc);
+        let mut i: usize = 0;
+        let mut given = none(alloc);
+        let mut calls = none(alloc);
         for symbol in symbols {
             match symbol {
                 InlinedSymbol::Original(_) => {

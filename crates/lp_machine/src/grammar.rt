@@ -1,9 +1,9 @@
 //! The productions and terminals of a grammar by number.
 
-ghost use Rattle.std.specs.Prelude.{◌≡◌, ◌∷◌, [], ◌++◌, map, length, IfOk, Some, None};
+ghost use Rattle.std.specs.Prelude.{◌≡◌, ◌∷◌, [], ◌++◌, map, length, position, IfOk, Some, None, if◌then◌else◌};
 ghost use Rattle.std.specs.Option.{option_copied};
 ghost use Rattle.lp_repr.specs.Names.{same_text, same_nonterminal};
-ghost use Rattle.lp_machine.specs.GrammarTables.{is_start, rule_of, rules_of, known_by, known_among, is_error, error_of, last_named, params_among};
+ghost use Rattle.lp_machine.specs.GrammarTables.{is_start, rule_of, rules_of, known_by, known_among, is_error, error_of, is_named, last_named, params_among};
 
 use crate::lookup::{KnownTerminal, Rule};
 use crate::terms::copied_text;
@@ -111,26 +111,46 @@ fn is_error(terminal: &TerminalString) -> bool
     }
 }
 
+fn error_place(terminals: &[TerminalString]) -> Option<usize>
+    ensures { result ≡ position is_error terminals.now }
+{
+    terminals.iter().position(|t| is_error(t))
+}
+
 /// The number of the error terminal, where errors are mended.
 pub fn error_of(grammar: &Grammar) -> Option<usize>
     ensures { result ≡ error_of grammar.now }
 {
-    if !grammar.uses_error_recovery {
-        return None;
+    if grammar.uses_error_recovery {
+        error_place(grammar.terminals.all.as_slice())
+    } else {
+        None
     }
-    let terminals = grammar.terminals.all.as_slice();
-    terminals.iter().position(|t| is_error(t))
+}
+
+fn is_named(parameter: Option<&Parameter>, name: &Text) -> bool
+    ensures { result ≡ is_named (option_copied parameter.entry) name.now }
+{
+    match parameter {
+        None => false,
+        Some(p) => same_text(&p.name, name),
+    }
+}
+
+// This value where it is one, else the other.
+fn newer<'v>(is_one: bool, value: &'v Text, other: Option<&'v Text>) -> Option<&'v Text>
+    ensures { option_copied result ≡ (if is_one then Some value.entry.now else option_copied other.entry) }
+{
+    if is_one { Some(value) } else { other }
 }
 
 // The value of the last parameter of this name.
 fn last_named<'v>(names: &[Parameter], values: &'v [Text], name: &Text) -> Option<&'v Text>
-    ensures { option_copied result ≡ last_named names.now values.entry.now name.now None }
+    ensures { option_copied result ≡ last_named names.now name.now 0 values.entry.now None }
 {
     let mut last = None;
-    for (parameter, value) in names.iter().zip(values) {
-        if same_text(&parameter.name, name) {
-            last = Some(value);
-        }
+    for (i, value) in values.iter().enumerate() {
+        last = newer(is_named(names.get(i), name), value, last);
     }
     last
 }

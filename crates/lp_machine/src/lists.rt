@@ -5,7 +5,14 @@ ghost use Rattle.lp_machine.specs.ReductionSpan.{popped, below};
 ghost use Rattle.lp_driver.specs.DriverState.{last_of};
 
 use lp_repr::text::Items;
-use std::alloc::AllocError;
+use std::alloc::{AllocError, Global};
+
+/// A list of none.
+pub fn none<T>(alloc: Global) -> Items<T>
+    ensures { result ≡ [] }
+{
+    Items(Vec::new(alloc))
+}
 
 /// Puts an element at the end.
 pub fn push<T: Drop>(list: &mut Items<T>, x: T) -> Result<(), AllocError>

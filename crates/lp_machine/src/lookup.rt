@@ -1,7 +1,8 @@
 //! What stands in LR states and among terminals.
 
-ghost use Rattle.std.specs.Prelude.{◌≡◌, ℕ, ◌++◌, length, IfOk};
-ghost use Rattle.lp_machine.specs.Lookup.{same_token, shift_in, reduction_in, act_in, act_at, goto_at, terminal_in, payload, payloads_upto, value_with};
+ghost use Rattle.std.specs.Prelude.{◌≡◌, ℕ, ◌++◌, length, position, IfOk};
+ghost use Rattle.std.specs.List.{list_any};
+ghost use Rattle.lp_machine.specs.Lookup.{same_token, shift_in, reduction_at, reduction_in, act_in, act_at, goto_at, terminal_in, payload, payloads_upto, value_with};
 ghost use Rattle.lp_driver.specs.Values.{value_of};
 
 use crate::terms::copied_text;
@@ -64,12 +65,23 @@ fn shift_in(state: &Lr1State, token: Token) -> Option<usize>
     }
 }
 
-fn reduction_in(reductions: &[(Items<Token>, usize)], token: Token) -> Act
-    ensures { result ≡ reduction_in reductions.now token }
+fn has_token(tokens: &[Token], token: Token) -> bool
+    ensures { result ≡ list_any (λ t. same_token t token) tokens.now }
 {
-    let place = reductions
+    tokens.iter().any(|t| same_token(*t, token))
+}
+
+fn reduction_place(reductions: &[(Items<Token>, usize)], token: Token) -> Option<usize>
+    ensures { result ≡ position (λ r. list_any (λ t. same_token t token) r.0) reductions.now }
+{
+    reductions
         .iter()
-        .position(|r| r.0.as_slice().iter().any(|t| same_token(*t, token)));
+        .position(|r| has_token(r.0.as_slice(), token))
+}
+
+fn reduction_at(reductions: &[(Items<Token>, usize)], place: Option<usize>) -> Act
+    ensures { result ≡ reduction_at reductions.now place }
+{
     match place {
         None => Act::NoAction,
         Some(i) => match reductions.get(i) {
@@ -77,6 +89,12 @@ fn reduction_in(reductions: &[(Items<Token>, usize)], token: Token) -> Act
             Some(r) => Act::ReduceBy(r.1),
         },
     }
+}
+
+fn reduction_in(reductions: &[(Items<Token>, usize)], token: Token) -> Act
+    ensures { result ≡ reduction_in reductions.now token }
+{
+    reduction_at(reductions, reduction_place(reductions, token))
 }
 
 fn act_in(state: &Lr1State, token: Token) -> Act

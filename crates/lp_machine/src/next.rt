@@ -10,7 +10,7 @@ use crate::actions::end_or;
 use crate::calls::{Acted, Call};
 use crate::compiled::Compiled;
 use crate::config::{Config, Left, Listing, Lookahead, Mending, go_on, mend};
-use crate::lists::{popped, push, top};
+use crate::lists::{none, popped, push, top};
 use crate::lookup::{Act, Rule};
 use crate::terms::{Symbol, copied_token};
 use crate::verdict::names_with_action;
@@ -195,7 +195,8 @@ impl Input<'_> {
     pub fn looks(&self, config: &mut Config)
         ensures { config.new ≡ looks (tables_of self.now.tables) self.now.items.now config.old }
     {
-        go_on(config, Left::Looks(config.states.as_slice().len()));
+        let places = config.states.as_slice().len();
+        go_on(config, Left::Looks(places));
     }
 
     // The rule of a production, where its symbols are on the stack.
@@ -244,7 +245,7 @@ impl Input<'_> {
             over(config, Err(error));
             return Ok(());
         }
-        let dropped = Items::new(self.tables.alloc);
+        let dropped = none(self.tables.alloc);
         mend(config, Mending { error, dropped });
         self.asks_error(config)
     }
@@ -276,7 +277,7 @@ impl Input<'_> {
     {
         match self.tables.expecting {
             Expecting::Trial => {
-                let found = Items::new(self.tables.alloc);
+                let found = none(self.tables.alloc);
                 let listing = Listing {
                     token,
                     mends,
@@ -358,16 +359,16 @@ impl Input<'_> {
         ensures { IfOk result (λ c. c ≡ first (tables_of self.now.tables) self.now.items.now) }
     {
         let alloc = self.tables.alloc;
-        let mut states = Items::new(alloc);
+        let mut states = none(alloc);
         push(&mut states, 0)?;
         let mut config = Config {
             states,
-            triples: Items::new(alloc),
+            triples: none(alloc),
             lookahead: None,
             mending: None,
             taken: 0,
             last: Loc::Default,
-            calls: Items::new(alloc),
+            calls: none(alloc),
             left: Left::Pulls,
         };
         self.ready(&mut config)?;

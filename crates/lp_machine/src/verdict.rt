@@ -6,7 +6,7 @@ ghost use Rattle.lp_machine.specs.TablesView.{tables_of};
 ghost use Rattle.lp_machine.specs.ExpectedList.{has_action, names_with_action, verdict, verdict_by, verdict_by_rule, reduced_stack};
 
 use crate::compiled::Compiled;
-use crate::lists::{push, top, under};
+use crate::lists::{none, push, top, under};
 use crate::lookup::{Act, Rule};
 use crate::terms::copied_text;
 use lp_repr::text::{Items, Text};
@@ -84,7 +84,7 @@ pub fn verdict_on(
 pub fn names_with_action(tables: &Compiled, state: Option<usize>) -> Result<Items<Text>, AllocError>
     ensures { IfOk result (λ l. l ≡ names_with_action (tables_of tables.now) state 0 (tables_of tables.now).names) }
 {
-    let mut names = Items::new(tables.alloc);
+    let mut names = none(tables.alloc);
     for (i, terminal) in tables.terminals.iter().enumerate() {
         if has_action(tables.action_on(state, Some(i))) {
             push(&mut names, copied_text(&terminal.name)?)?;

@@ -1,0 +1,11 @@
+-- The last of the values whose parameter has a name.
+use Rattle.std.proofs.Common.{◌≡◌, ℕ, ◌+◌, List, ◌∷◌, Option, Some, slice_get, sym, ap, ◌∙◌}
+use Rattle.std.specs.Prelude.{if◌then◌else◌}
+use Rattle.lp_repr.specs.declared.repr.Parameter.{Parameter}
+use Rattle.lp_driver.specs.Values.{Text}
+use Rattle.lp_machine.specs.GrammarTables.{is_named, last_named}
+
+pub last_step : (names : List Parameter) (name : Text) (i : ℕ) (values rest : List Text) (v : Text) (found found' : Option Text)
+    → values ≡ v ∷ rest → found' ≡ (if is_named (slice_get names i) name then Some v else found) → last_named names name (i + 1) rest found' ≡ last_named names name i values found
+last_step names name i values rest v found found' hv hf =
+    ap (last_named names name (i + 1) rest) hf ∙ ap (λ vs. last_named names name i vs found) (sym hv)
