@@ -9,6 +9,7 @@ pub mod Moves
 pub mod Move
 pub mod TablesView
 pub mod GrammarTables
+pub mod RunEnds
 pub mod MachineRun
 pub mod ExpectedLaw
 pub mod RecoveryLaw

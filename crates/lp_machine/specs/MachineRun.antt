@@ -24,6 +24,7 @@ use Rattle.lp_machine.specs.TablesView.{tables_of}
 use Rattle.lp_machine.specs.Moves.{first}
 use Rattle.lp_machine.specs.Move.{move, moves}
 use Rattle.lp_machine.specs.GrammarTables.{grammar_tables}
+use Rattle.lp_machine.specs.RunEnds.{ended, outcome_ending, option_ending, call_of}
 
 -- a machine over its tables and items: without a configuration once it found no memory
 pub record Standing : Type 0 where
@@ -47,40 +48,6 @@ Begins (Err ParameterCount) wanted given declared = given ≢ declared
 Begins (Err Memory) wanted given declared = Unit {0}
 Begins (Err NoStart) wanted given declared = ⊥
 Begins (Err (Stuck steps)) wanted given declared = ⊥
-
--- how a run ended, if it did
-abbrev pub ending_of : Result Value Failure → Ending
-ending_of (Ok value) = Gives value
-ending_of (Err failure) = Fails failure
-
-abbrev pub ended : Left → Option Ending
-ended (Over result) = Some (ending_of result)
-ended Pulls = None
-ended (Shifts to) = None
-ended (Calls rule calls result) = None
-ended (Reduces rule value) = None
-ended (Tries listing i) = None
-ended (Simulates listing i stack) = None
-ended (Looks places) = None
-ended (Checks place to stack) = None
-ended Drops = None
-
--- what an outcome says of that
-abbrev pub outcome_ending : Outcome → Option Ending
-outcome_ending (outcome.Value term) = Some (Gives (value_of term))
-outcome_ending (outcome.Error failure) = Some (Fails failure)
-outcome_ending outcome.Spent = None
-
-abbrev pub option_ending : Option Outcome → Option Ending
-option_ending None = None
-option_ending (Some o) = outcome_ending o
-
--- a call of user code, by the event that tells of it
-abbrev pub spanned_value : Loc × Term × Loc → Spanned Value
-spanned_value x = (x.0, value_of x.1, x.2)
-
-abbrev pub call_of : Event → Call
-call_of e = record { number = e.number; code = e.code; params = e.params; args = map spanned_value e.args; place = e.place }
 
 module _ (t : Tables) (items : List RunItem) where
   -- how many of at most m moves are made before the run is over

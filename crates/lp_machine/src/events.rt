@@ -1,7 +1,7 @@
 //! Events of calls.
 
 ghost use Rattle.std.specs.Prelude.{◌≡◌, map, IfOk};
-ghost use Rattle.lp_machine.specs.MachineRun.{spanned_value, call_of};
+ghost use Rattle.lp_machine.specs.RunEnds.{spanned_value, call_of};
 
 use crate::calls::Call;
 use crate::terms::Symbol;

@@ -4,7 +4,8 @@ ghost use Rattle.std.specs.Prelude.{◌≡◌, ℕ, Some, None, is_some, map, le
 ghost use Rattle.lp_driver.specs.Values.{value_of};
 ghost use Rattle.lp_machine.specs.TablesView.{tables_of};
 ghost use Rattle.lp_machine.specs.Move.{move, moves};
-ghost use Rattle.lp_machine.specs.MachineRun.{at_first, Begins, ended, ending_of, outcome_ending, option_ending, call_of, moves_made, standing_of, Steps, Runs};
+ghost use Rattle.lp_machine.specs.MachineRun.{at_first, Begins, moves_made, standing_of, Steps, Runs};
+ghost use Rattle.lp_machine.specs.RunEnds.{ended, ending_of, outcome_ending, option_ending, call_of};
 
 use crate::compiled::Compiled;
 use crate::config::{Config, Left};

@@ -1,5 +1,5 @@
 use Rattle.std.proofs.Common.{◌≡◌, map}
-use Rattle.lp_machine.specs.MachineRun.{call_of}
+use Rattle.lp_machine.specs.RunEnds.{call_of}
 use Rattle.lp_machine.proofs.events.events_of.Given as goal
 
 abbrev pub invariant-loop-call : goal.invariant-loop-call

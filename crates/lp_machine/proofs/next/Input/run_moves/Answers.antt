@@ -2,7 +2,7 @@ use Rattle.std.proofs.Common.{◌≡◌, ◌+◌, zero-add, sym, ap, ◌∙◌, 
 use Rattle.lp_machine.specs.TablesView.{tables_of}
 use Rattle.lp_machine.specs.Move.{moves}
 use Rattle.lp_machine.specs.MachineRun.{moves_made}
-use Rattle.lp_machine.proofs.MoreMoves.{one_more, one_counted, over_here, all_made}
+use Rattle.lp_machine.proofs.RunMoves.{one_more, one_counted, over_here, all_made}
 use Rattle.lp_machine.proofs.next.Input.run_moves.Goals as goal
 
 pub loop-made-init : goal.loop-made-init
