@@ -38,12 +38,6 @@ module _ (params : List Text) (failing : List ℕ) where
   act_nested (suc depth) actions a args place n h =
       let e : suc depth - 1 ≡ depth = omega arith in ap (λ d. meaning_at params failing (act params failing d actions) (slice_get actions a) args place n) e
 
--- the rest of a list from one of its elements
-pub drop_here : {A : Type 0} (xs : List A) (i : ℕ) (x : A) → i < length xs → x ≡ get_or xs i x → drop i xs ≡ x ∷ drop (i + 1) xs
-drop_here xs i x lt is =
-    let e : suc i ≡ i + 1 = omega arith in
-    drop-cons xs i x lt ∙ ap (λ y. y ∷ drop (suc i) xs) (sym is) ∙ ap (λ k. x ∷ drop k xs) e
-
 module _ (acts : Meaning) (outer : ℕ) (args : List (Spanned Value)) (place : Loc × Loc) where
   -- an original symbol takes one of the arguments
   pub step_original : (i i' : ℕ) (given given' : List (Spanned Value)) (n : ℕ) (calls calls' : List Call) (rest symbols : List InlinedSymbol) (x : Symbol)
@@ -73,3 +67,14 @@ module _ (acts : Meaning) (outer : ℕ) (args : List (Spanned Value)) (place : L
       ∙ ap (λ m. after_calls (calls ++ is.calls) (inline_from acts outer args place (i + length inner) (given ++ (at.0, value, at.1) ∷ []) m rest)) e
       ∙ sym (after_value calls is is.result value go hr')
       ∙ ap (λ ss. after_calls calls (inline_from acts outer args place i given (n + length calls) ss)) (sym hs)
+
+  -- the same, by the parts in which the code has it
+  pub step_parts : (i i' i1 : ℕ) (given given' g1 : List (Spanned Value)) (n : ℕ) (calls calls' c1 : List Call) (rest symbols : List InlinedSymbol) (action : ℕ) (inner : List Symbol) (k m : ℕ) (at : Loc × Loc) (acted : Acted) (value : Value)
+      → symbols ≡ Inlined action inner ∷ rest → k ≡ length inner → at ≡ inlined_span args i k place → m ≡ n + length calls → acted ≡ acts action (take k (drop i args)) at m → acted.result ≡ Ok value
+      → i' ≡ i1 → i1 ≡ i + k → given' ≡ g1 → g1 ≡ given ++ (at.0, value, at.1) ∷ [] → calls' ≡ c1 → c1 ≡ calls ++ acted.calls
+      → after_calls calls' (inline_from acts outer args place i' given' (n + length calls') rest) ≡ after_calls calls (inline_from acts outer args place i given (n + length calls) symbols)
+  step_parts i i' i1 given given' g1 n calls calls' c1 rest symbols action inner k m at acted value hs hk hat hm ha hr hi hi1 hg hg1 hc hc1 =
+      let here : at ≡ inlined_span args i (length inner) place = hat ∙ ap (λ j. inlined_span args i j place) hk in
+      let is : acted ≡ acts action (take (length inner) (drop i args)) (inlined_span args i (length inner) place) (n + length calls) =
+      ha ∙ ap (λ j. acts action (take j (drop i args)) at m) hk ∙ ap (λ a. acts action (take (length inner) (drop i args)) a m) here ∙ ap (λ x. acts action (take (length inner) (drop i args)) (inlined_span args i (length inner) place) x) hm in
+      step_inlined i i' given given' n calls calls' rest symbols action inner acted value hs is hr (hi ∙ hi1 ∙ ap (λ j. i + j) hk) (hg ∙ hg1 ∙ ap (λ (a : Loc × Loc). given ++ (a.0, value, a.1) ∷ []) here) (hc ∙ hc1)

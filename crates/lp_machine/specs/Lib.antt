@@ -13,3 +13,5 @@ pub mod RunEnds
 pub mod MachineRun
 pub mod ExpectedLaw
 pub mod RecoveryLaw
+pub mod TableAnswers
+pub mod TableLaw

@@ -157,6 +157,12 @@ impl Actions<'_> {
         })
     }
 
+    fn definition(&self, action: usize) -> Option<&ActionFnDefn>
+        ensures { option_copied result ≡ slice_get self.now.actions.now action }
+    {
+        self.actions.get(action)
+    }
+
     /// What an action does to these triples, at a place where it has none, when n calls were made
     /// before. Its inlined actions nest less than `depth` deep.
     #[cycle(act)]
@@ -174,7 +180,7 @@ impl Actions<'_> {
         if depth == 0 {
             return Ok(gives(alloc, Term::Location(place.0)));
         }
-        self.meaning_at(alloc, depth - 1, self.actions.get(action), args, place, n)
+        self.meaning_at(alloc, depth - 1, self.definition(action), args, place, n)
     }
 
     // What an action does, where it is there.
@@ -209,6 +215,24 @@ impl Actions<'_> {
         }
     }
 
+    // An inlined action on its share of the arguments: k of them from number i on.
+    #[cycle(act)]
+    fn inlined(
+        &self,
+        alloc: Global,
+        depth: usize,
+        action: usize,
+        k: usize,
+        args: &[Triple],
+        i: usize,
+        at: (Loc, Loc),
+        n: u64,
+    ) -> Result<Acted, AllocError>
+        ensures { IfOk result (λ acted. acted ≡ act self.now.params self.now.failing.now depth self.now.actions.now action (take k (drop i args.now)) at n) }
+    {
+        self.act(alloc, depth, action, share(args, i, k), at, n)
+    }
+
     // The inlined actions run in order, each on its share of the arguments. At last the outer one
     // runs on the original triples and on what they gave.
     #[cycle(act)]
@@ -234,11 +258,20 @@ impl Actions<'_> {
                     i = plus(i, 1)?;
                 }
                 InlinedSymbol::Inlined(action, inner) => {
-                    let k = inner.as_slice().len();
-                    let next = plus(i, k)?;
-                    let at = inlined_span(args, i, k, place);
+                    let inner = inner.as_slice();
+                    let next = plus(i, inner.len())?;
                     let number = number_after(n, &calls)?;
-                    let acted = self.act(alloc, depth, *action, share(args, i, k), at, number)?;
+                    let at = inlined_span(args, i, inner.len(), place);
+                    let acted = self.inlined(
+                        alloc,
+                        depth,
+                        *action,
+                        inner.len(),
+                        args,
+                        i,
+                        at,
+                        number,
+                    )?;
                     append(&mut calls, acted.calls)?;
                     match acted.result {
                         Err(error) => {

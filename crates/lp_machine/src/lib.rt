@@ -2,6 +2,7 @@
 #![tactic(auto)]
 
 pub mod actions;
+pub mod by_tables;
 pub mod calls;
 pub mod compiled;
 pub mod config;

@@ -3,7 +3,10 @@
 mod tables;
 
 use crate::Machine;
-use lp_driver::{Expecting, Loc, RunError, RunItem, TokenValue};
+use crate::by_tables::TableDefinition;
+use crate::compiled::Compiled;
+use crate::events::events_of;
+use lp_driver::{Expecting, Loc, RunError, RunItem, TokenValue, drive};
 use lp_repr::repr::LookaroundActionFn;
 use lp_repr::text::{Items, Text};
 use std::alloc::{AllocError, Global};
@@ -44,6 +47,36 @@ fn shown(
         writeln!(text, "{event}")?;
     }
     write!(text, "{}", run.outcome)?;
+    Ok(text)
+}
+
+// The same of a driver that asks a definition by the tables.
+fn driven(
+    alloc: Global,
+    example: &Example,
+    expecting: Expecting,
+    items: &[RunItem],
+    failing: &[u64],
+    steps: u64,
+) -> Result<String, RunError> {
+    let tables = Compiled::new(
+        alloc,
+        &example.grammar,
+        &example.states,
+        expecting,
+        &[],
+        failing,
+    )?;
+    let mut definition = TableDefinition::new(tables, steps);
+    let outcome = drive(alloc, &mut definition, items);
+    let mut text = String::new(alloc);
+    for event in &events_of(alloc, definition.calls)? {
+        writeln!(text, "{event}")?;
+    }
+    match outcome {
+        Ok(outcome) => write!(text, "{outcome}")?,
+        Err(_) => write!(text, "no outcome")?,
+    }
     Ok(text)
 }
 
@@ -419,5 +452,57 @@ fn a_run_without_end_is_spent(rt: HostRuntime) -> Result<(), Fail> {
         run.as_str(),
         "call 0 \"()\" params [] args [] at 0 0\ncall 1 \"()\" params [] args [] at 0 0\nspent"
     );
+    Ok(())
+}
+
+// The machine and the driver come to the same, with both kinds of expected lists.
+fn agree(
+    alloc: Global,
+    example: &Example,
+    items: &[RunItem],
+    failing: &[u64],
+) -> Result<bool, RunError> {
+    for expecting in [Expecting::Trial, Expecting::Actions] {
+        let run = shown(alloc, example, expecting, items, failing, 1000)?;
+        let driven = driven(alloc, example, expecting, items, failing, 1000)?;
+        if driven.as_str() != run.as_str() {
+            return Ok(false);
+        }
+    }
+    Ok(true)
+}
+
+#[test]
+fn the_driver_agrees_on_values(rt: HostRuntime) -> Result<(), Fail> {
+    let alloc = rt.alloc();
+    let a = [token(alloc, "Tok::A", 0, 1)?];
+    assert!(rt; agree(alloc, &one_token(alloc)?, &a, &[0])?);
+    assert!(rt; agree(alloc, &empty_before(alloc)?, &a, &[])?);
+    let both = [token(alloc, "Tok::A", 0, 1)?, token(alloc, "Tok::B", 3, 4)?];
+    assert!(rt; agree(alloc, &looks_between(alloc)?, &both, &[])?);
+    Ok(())
+}
+
+#[test]
+fn the_driver_agrees_on_errors(rt: HostRuntime) -> Result<(), Fail> {
+    let alloc = rt.alloc();
+    let example = looks_between(alloc)?;
+    let unknown = [token(alloc, "Tok::A", 0, 1)?, token(alloc, "", 2, 3)?];
+    assert!(rt; agree(alloc, &example, &unknown, &[])?);
+    assert!(rt; agree(alloc, &example, &[], &[])?);
+    let fault = [RunItem::Fault(Text::from_str(alloc, "e")?)];
+    assert!(rt; agree(alloc, &example, &fault, &[])?);
+    Ok(())
+}
+
+#[test]
+fn the_driver_agrees_on_mended_errors(rt: HostRuntime) -> Result<(), Fail> {
+    let alloc = rt.alloc();
+    let example = mending(alloc)?;
+    assert!(rt; agree(alloc, &example, &[], &[])?);
+    let dropped = [token(alloc, "Tok::B", 0, 1)?];
+    assert!(rt; agree(alloc, &example, &dropped, &[])?);
+    let popped = [token(alloc, "Tok::A", 0, 1)?, token(alloc, "Tok::B", 1, 2)?];
+    assert!(rt; agree(alloc, &example, &popped, &[])?);
     Ok(())
 }
