@@ -1,7 +1,8 @@
 // A calculator: tokens with a captured number, a parameter of the parser, a call of user code that may
 // fail, and two starts. The second token line makes its second call fail.
 #![allow(dead_code)]
-use crate::ast::Node;
+use crate::arithmetic::div;
+use crate::tokens::Tok;
 
 grammar(scale: i32);
 

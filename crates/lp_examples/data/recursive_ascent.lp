@@ -1,5 +1,7 @@
 // Recursive ascent code: after `a` and `0` the parser may have read all of an `X`, or the front of a
 // `B`, so the function of that state is handed a value that it may not need.
+use crate::tokens::Tok;
+
 #[recursive_ascent]
 grammar;
 
