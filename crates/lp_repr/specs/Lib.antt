@@ -8,3 +8,5 @@ pub mod Closure
 pub mod ValidTables
 pub mod Escapes
 pub mod Shown
+pub mod NameOrder
+pub mod Matching
