@@ -14,6 +14,6 @@ invariant_of-result c =
     let e = ap (map deref) c.as_slice.ensures.value ∙ c.in_ok-nonterminals.ensures in
     let f = ap (map deref) c.as_slice-2.ensures.value ∙ c.in_ok-terminals.ensures in
     record {
-        nonterminals_numbered = λ q. c.in_ok-by_name.ensures q ∙ ap (position_from (eq_by_cmp nonterminal_cmp q) 0) e ∙ sym (same_position (same_nonterminal q) (eq_by_cmp nonterminal_cmp q) (nonterminal_ties q) 0 (nonterminals_of grammar));
-        terminals_numbered = λ q. c.in_ok-by_name-2.ensures q ∙ ap (position_from (eq_by_cmp terminal_cmp q) 0) f ∙ sym (same_position (same_terminal q) (eq_by_cmp terminal_cmp q) (terminal_ties q) 0 (terminals_of grammar))
+      nonterminals_numbered = λ q. c.in_ok-by_name.ensures q ∙ ap (position_from (eq_by_cmp nonterminal_cmp q) 0) e ∙ sym (same_position (same_nonterminal q) (eq_by_cmp nonterminal_cmp q) (nonterminal_ties q) 0 (nonterminals_of grammar));
+      terminals_numbered = λ q. c.in_ok-by_name-2.ensures q ∙ ap (position_from (eq_by_cmp terminal_cmp q) 0) f ∙ sym (same_position (same_terminal q) (eq_by_cmp terminal_cmp q) (terminal_ties q) 0 (terminals_of grammar));
     }
