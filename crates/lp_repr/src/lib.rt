@@ -12,6 +12,8 @@ pub mod numbering;
 pub mod parse_tree;
 pub mod repr;
 mod state_parts;
+#[cfg(test)]
+mod tests;
 pub mod text;
 pub mod values;
 
