@@ -10,3 +10,4 @@ pub mod Escapes
 pub mod Shown
 pub mod NameOrder
 pub mod Matching
+pub mod TypeOrder
