@@ -8,3 +8,6 @@ pub mod Closure
 pub mod ValidTables
 pub mod Escapes
 pub mod Shown
+pub mod NameOrder
+pub mod Matching
+pub mod TypeOrder

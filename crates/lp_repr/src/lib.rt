@@ -12,7 +12,10 @@ pub mod numbering;
 pub mod parse_tree;
 pub mod repr;
 mod state_parts;
+#[cfg(test)]
+mod tests;
 pub mod text;
+mod type_order;
 pub mod values;
 
 pub use escaped::Escaped;
@@ -22,3 +25,4 @@ pub use matching::{matched_terminal, matches};
 pub use normal::norm;
 pub use state_parts::{max_prefix, successors, will_pop, will_produce, will_push};
 pub use text::{Items, Text};
+pub use type_order::compare_types;

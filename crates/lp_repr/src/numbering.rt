@@ -1,12 +1,19 @@
 //! Productions, nonterminals and terminals by number.
 
-ghost use Rattle.std.specs.Prelude.{◌≡◌, ◌++◌, map, IfOk, OnOk, length, slice_get, option_copied, unwrap_or};
+ghost use Rattle.std.specs.Prelude.{◌≡◌, ◌++◌, ◌-◌, ◌^◌, map, IfOk, OnOk, length, min, slice_get, option_copied, unwrap_or};
 ghost use Rattle.std.specs.Map.Iter.{deref};
+ghost use Rattle.std.specs.List.{position_from};
+ghost use Rattle.std.specs.Ordering.{eq_by_cmp};
+ghost use Rattle.std.specs.BTreeMap.{get, values};
+ghost use Rattle.lp_repr.specs.NameOrder.{nonterminal_cmp, terminal_cmp};
+ghost use Rattle.lp_repr.specs.declared.repr.NonterminalString.{NonterminalString};
+ghost use Rattle.lp_repr.specs.declared.repr.TerminalString.{TerminalString};
 ghost use Rattle.lp_repr.specs.Numbering.{productions_of, nonterminals_of, terminals_of, nonterminal_number, terminal_number, symbol_number, number_or_count, rule_of, rules_of, firsts_from};
 
 use crate::repr::{Grammar, NonterminalString, Production, Symbol, TerminalString};
 use crate::text::Items;
 use std::alloc::{AllocError, Global};
+use std::collections::BTreeMap;
 
 /// A symbol by its number.
 #[derive(Clone, Copy, Debug, PartialEq, Eq, PartialOrd, Ord)]
@@ -23,7 +30,9 @@ pub struct Rule {
 }
 
 /// The number of productions: those of all nonterminals.
-pub fn production_count(grammar: &Grammar) -> usize {
+pub fn production_count(grammar: &Grammar) -> usize
+    ensures { result ≡ min (length (productions_of grammar.now)) (2 ^ 64 - 1) }
+{
     let mut count = 0usize;
     for data in grammar.nonterminals.values() {
         count = count.saturating_add(data.productions.as_slice().len());
@@ -78,39 +87,61 @@ pub fn nonterminals(alloc: Global, grammar: &Grammar) -> Result<Vec<&Nonterminal
     grammar.nonterminals.keys().collect(alloc)
 }
 
-/// Names in order, each with its number, so that a number is found in logarithmic time.
+/// From each of these names to its number, the least where it stands twice.
+fn by_name<T: Ord + Clone + Drop>(
+    alloc: Global,
+    names: &[&T],
+) -> Result<BTreeMap<T, usize>, AllocError>
+    requires { (x : T) → (y : T) → T.is_clone x y → y ≡ x }
+    ensures { IfOk result (λ m. (q : T) → get T.cmp m q ≡ position_from (eq_by_cmp T.cmp q) 0 (map deref names.now)) }
+{
+    let mut numbers = BTreeMap::new(alloc);
+    let mut number = names.len();
+    while number > 0 {
+        number -= 1;
+        // The last to be written stands, which is the least.
+        numbers.insert(names[number].clone()?, number)?;
+    }
+    Ok(numbers)
+}
+
+/// The numbers of a grammar's nonterminals and terminals, each found in logarithmic time.
 #[derive(Debug, Drop)]
 pub struct Numbers<'g> {
-    nonterminals: Vec<&'g NonterminalString>,
-    terminals: Vec<(&'g TerminalString, usize)>,
+    /// The grammar whose names are numbered.
+    pub grammar: &'g Grammar,
+    nonterminals: BTreeMap<NonterminalString, usize>,
+    terminals: BTreeMap<TerminalString, usize>,
+    ghost nonterminals_numbered: { (q : NonterminalString) → get nonterminal_cmp nonterminals q ≡ nonterminal_number grammar.now q },
+    ghost terminals_numbered: { (q : TerminalString) → get terminal_cmp terminals q ≡ terminal_number grammar.now q },
 }
 
 impl<'g> Numbers<'g> {
-    pub fn new(alloc: Global, grammar: &'g Grammar) -> Result<Numbers<'g>, AllocError> {
+    /// The numbers of a grammar.
+    pub fn new(alloc: Global, grammar: &'g Grammar) -> Result<Numbers<'g>, AllocError>
+        ensures { IfOk result (λ n. n.grammar.now ≡ grammar.now) }
+    {
         let nonterminals = nonterminals(alloc, grammar)?;
-        let mut terminals = Vec::new(alloc);
-        for (number, terminal) in grammar.terminals.all.as_slice().iter().enumerate() {
-            terminals.push((terminal, number))?;
-        }
-        terminals.sort()?;
+        let terminals = terminals(alloc, grammar)?;
         Ok(Numbers {
-            nonterminals,
-            terminals,
+            grammar,
+            nonterminals: by_name(alloc, nonterminals.as_slice())?,
+            terminals: by_name(alloc, terminals.as_slice())?,
         })
     }
 
     /// The number of a nonterminal, if it is declared.
-    pub fn nonterminal(&self, name: &NonterminalString) -> Option<usize> {
-        self.nonterminals.binary_search_by(|n| (**n).cmp(name)).ok()
+    pub fn nonterminal(&self, name: &NonterminalString) -> Option<usize>
+        ensures { result ≡ nonterminal_number self.now.grammar.now name.now }
+    {
+        self.nonterminals.get(name).copied()
     }
 
     /// The number of a terminal, the first where it stands twice.
-    pub fn terminal(&self, terminal: &TerminalString) -> Option<usize> {
-        let place = self.terminals.partition_point(|t| t.0 < terminal);
-        match self.terminals.get(place) {
-            Some((found, number)) if **found == *terminal => Some(*number),
-            _ => None,
-        }
+    pub fn terminal(&self, terminal: &TerminalString) -> Option<usize>
+        ensures { result ≡ terminal_number self.now.grammar.now terminal.now }
+    {
+        self.terminals.get(terminal).copied()
     }
 
     /// The numbers of symbols, the count where one is not declared.
@@ -118,7 +149,9 @@ impl<'g> Numbers<'g> {
         &self,
         alloc: Global,
         symbols: &[Symbol],
-    ) -> Result<Vec<SymbolNumber>, AllocError> {
+    ) -> Result<Vec<SymbolNumber>, AllocError>
+        ensures { IfOk result (λ v. v.items ≡ map (number_or_count self.now.grammar.now) symbols.now) }
+    {
         let mut all = Vec::new(alloc);
         for symbol in symbols {
             all.push(self.symbol_or_count(symbol))?;
@@ -127,21 +160,25 @@ impl<'g> Numbers<'g> {
     }
 
     /// The number of a symbol, the count where it is not declared.
-    fn symbol_or_count(&self, symbol: &Symbol) -> SymbolNumber {
+    fn symbol_or_count(&self, symbol: &Symbol) -> SymbolNumber
+        ensures { result ≡ number_or_count self.now.grammar.now symbol.now }
+    {
         match symbol {
             Symbol::Nonterminal(name) => {
-                let number = self.nonterminal(name).unwrap_or(self.nonterminals.len());
-                SymbolNumber::Nonterminal(number)
+                let count = self.grammar.nonterminals.len();
+                SymbolNumber::Nonterminal(self.nonterminal(name).unwrap_or(count))
             }
             Symbol::Terminal(terminal) => {
-                let number = self.terminal(terminal).unwrap_or(self.terminals.len());
-                SymbolNumber::Terminal(number)
+                let count = self.grammar.terminals.all.as_slice().len();
+                SymbolNumber::Terminal(self.terminal(terminal).unwrap_or(count))
             }
         }
     }
 
-    /// The number of a symbol.
-    pub fn symbol(&self, symbol: &Symbol) -> Option<SymbolNumber> {
+    /// The number of a symbol, if it is declared.
+    pub fn symbol(&self, symbol: &Symbol) -> Option<SymbolNumber>
+        ensures { result ≡ symbol_number self.now.grammar.now symbol.now }
+    {
         match symbol {
             Symbol::Nonterminal(name) => self.nonterminal(name).map(SymbolNumber::Nonterminal),
             Symbol::Terminal(terminal) => self.terminal(terminal).map(SymbolNumber::Terminal),
@@ -149,13 +186,24 @@ impl<'g> Numbers<'g> {
     }
 }
 
+/// The names of the terminals by number.
+fn terminals(alloc: Global, grammar: &Grammar) -> Result<Vec<&TerminalString>, AllocError>
+    ensures { IfOk result (λ v. map deref v.items ≡ terminals_of grammar.now) }
+{
+    grammar.terminals.all.as_slice().iter().collect(alloc)
+}
+
 /// The productions by number, each by the numbers of its symbols. A symbol that is not declared
 /// has the count of terminals or nonterminals for its number.
-pub fn rules(alloc: Global, grammar: &Grammar) -> Result<Vec<Rule>, AllocError> {
+pub fn rules(alloc: Global, grammar: &Grammar) -> Result<Vec<Rule>, AllocError>
+    ensures { IfOk result (λ v. v.items ≡ rules_of grammar.now) }
+{
     let numbers = Numbers::new(alloc, grammar)?;
     let mut all = Vec::new(alloc);
-    for (left, data) in grammar.nonterminals.values().enumerate() {
+    let mut left: usize = 0;
+    for data in grammar.nonterminals.values() {
         push_rules(alloc, &numbers, left, data.productions.as_slice(), &mut all)?;
+        left = left.checked_add(1).ok_or(AllocError)?;
     }
     Ok(all)
 }
@@ -167,7 +215,9 @@ fn push_rules(
     left: usize,
     productions: &[Production],
     all: &mut Vec<Rule>,
-) -> Result<(), AllocError> {
+) -> Result<(), AllocError>
+    ensures { OnOk result (all.new.items ≡ all.old.items ++ map (rule_of numbers.now.grammar.now left) productions.now) }
+{
     for production in productions {
         let right = Items(numbers.symbols(alloc, production.symbols.as_slice())?);
         all.push(Rule { left, right })?;
@@ -176,13 +226,15 @@ fn push_rules(
 }
 
 /// The number of each nonterminal's first production, and at last the count of productions.
-pub fn first_productions(alloc: Global, grammar: &Grammar) -> Result<Vec<usize>, AllocError> {
+pub fn first_productions(alloc: Global, grammar: &Grammar) -> Result<Vec<usize>, AllocError>
+    ensures { IfOk result (λ v. v.items ≡ firsts_from 0 (values grammar.now.nonterminals)) }
+{
     let mut firsts = Vec::new(alloc);
-    let mut count = 0usize;
+    let mut before = Vec::new(alloc);
     for data in grammar.nonterminals.values() {
-        firsts.push(count)?;
-        count = count.saturating_add(data.productions.as_slice().len());
+        firsts.push(before.len())?;
+        push_references(data.productions.as_slice(), &mut before)?;
     }
-    firsts.push(count)?;
+    firsts.push(before.len())?;
     Ok(firsts)
 }
