@@ -8,3 +8,5 @@ pub mod Closure
 pub mod ValidTables
 pub mod Escapes
 pub mod Shown
+pub mod ShownTypes
+pub mod ShownValues
