@@ -3,3 +3,5 @@ pub mod Parts
 pub mod FreeRows
 pub mod Numbers
 pub mod TextParts
+pub mod ShownRows
+pub mod Joining

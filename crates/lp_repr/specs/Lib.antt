@@ -11,3 +11,5 @@ pub mod Shown
 pub mod NameOrder
 pub mod Matching
 pub mod TypeOrder
+pub mod ShownTypes
+pub mod ShownValues

@@ -47,18 +47,3 @@ pub(crate) fn write_after_each<W: fmt::Write, T: Shown>(
     }
     Ok(())
 }
-
-/// The elements, with a text between each two, whatever each is shown as.
-pub(crate) fn write_listed<W: fmt::Write, T: fmt::Display>(
-    f: &mut fmt::Formatter<W>,
-    items: &[T],
-    separator: &str,
-) -> fmt::Result {
-    for (i, item) in items.iter().enumerate() {
-        if i > 0 {
-            f.write_str(separator)?;
-        }
-        item.fmt(f)?;
-    }
-    Ok(())
-}

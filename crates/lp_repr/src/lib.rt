@@ -20,6 +20,7 @@ pub mod values;
 
 pub use escaped::Escaped;
 pub use free_variables::FreeVariables;
+pub use joined::Shown;
 pub use lr1::{Item, Lr1State, ShownItem, ShownToken, StartStates, Token};
 pub use matching::{matched_terminal, matches};
 pub use normal::norm;

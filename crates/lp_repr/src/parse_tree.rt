@@ -3,8 +3,9 @@
 ghost use Rattle.std.specs.Prelude.{◌++◌, Some, codes, refl};
 ghost use Rattle.std.specs.Fmt.{WritesOnOk};
 ghost use Rattle.lp_repr.specs.Shown.{parameter_text, path_text, visibility_text, binder_text};
+ghost use Rattle.lp_repr.specs.ShownTypes.{parameters_text, ret_text, arguments_text, bound_parameter_text, bound_text, file_clause_text};
 
-use crate::joined::{Shown, write_joined, write_listed};
+use crate::joined::{Shown, write_joined};
 use crate::text::{Items, Text};
 use std::fmt;
 use std::fmt::Display;
@@ -124,7 +125,9 @@ pub(crate) fn write_binder<W: fmt::Write>(
     f.write_str("> ")
 }
 
-impl<T: fmt::Display> fmt::Display for TypeBound<T> {
+impl<T: Shown> fmt::Display for TypeBound<T> {
+    ghost output = { λ x. Some (bound_text T.text x) };
+
     /// `'a`, `for<'a> p(A) -> B` or `for<'a> p<A, I = B>`.
     fn fmt<W: fmt::Write>(&self, f: &mut fmt::Formatter<W>) -> fmt::Result {
         match self {
@@ -137,7 +140,8 @@ impl<T: fmt::Display> fmt::Display for TypeBound<T> {
             } => {
                 write_binder(f, binder.as_slice())?;
                 path.fmt(f)?;
-                write_call(f, parameters.as_slice(), ret)
+                write_parameters(f, parameters.as_slice())?;
+                write_ret(f, ret)
             }
             TypeBound::Trait {
                 binder,
@@ -152,23 +156,22 @@ impl<T: fmt::Display> fmt::Display for TypeBound<T> {
     }
 }
 
-/// `(A, B) -> C`, or `(A, B)` without a result.
-fn write_call<W: fmt::Write, T: fmt::Display>(
+/// `(A, B)`
+fn write_parameters<W: fmt::Write, T: Shown>(
     f: &mut fmt::Formatter<W>,
     parameters: &[T],
-    ret: &Option<T>,
-) -> fmt::Result {
+) -> fmt::Result
+    ensures { WritesOnOk W.write_str_gives f.old result (parameters_text T.text parameters.now) f.new }
+{
     f.write_str("(")?;
-    write_listed(f, parameters, ", ")?;
-    f.write_str(")")?;
-    write_ret(f, ret)
+    write_joined(f, parameters, ", ")?;
+    f.write_str(")")
 }
 
 /// ` -> C`, or nothing.
-fn write_ret<W: fmt::Write, T: fmt::Display>(
-    f: &mut fmt::Formatter<W>,
-    ret: &Option<T>,
-) -> fmt::Result {
+fn write_ret<W: fmt::Write, T: Shown>(f: &mut fmt::Formatter<W>, ret: &Option<T>) -> fmt::Result
+    ensures { WritesOnOk W.write_str_gives f.old result (ret_text T.text ret.now) f.new }
+{
     match ret {
         None => Ok(()),
         Some(ret) => {
@@ -179,19 +182,23 @@ fn write_ret<W: fmt::Write, T: fmt::Display>(
 }
 
 /// `<A, B>`, or nothing for no arguments.
-fn write_arguments<W: fmt::Write, T: fmt::Display>(
+fn write_arguments<W: fmt::Write, T: Shown>(
     f: &mut fmt::Formatter<W>,
     arguments: &[T],
-) -> fmt::Result {
+) -> fmt::Result
+    ensures { WritesOnOk W.write_str_gives f.old result (arguments_text T.text arguments.now) f.new }
+{
     if arguments.is_empty() {
         return Ok(());
     }
     f.write_str("<")?;
-    write_listed(f, arguments, ", ")?;
+    write_joined(f, arguments, ", ")?;
     f.write_str(">")
 }
 
-impl<T: fmt::Display> fmt::Display for TypeBoundParameter<T> {
+impl<T: Shown> fmt::Display for TypeBoundParameter<T> {
+    ghost output = { λ x. Some (bound_parameter_text T.text x) };
+
     /// `'a`, `A` or `I = B`.
     fn fmt<W: fmt::Write>(&self, f: &mut fmt::Formatter<W>) -> fmt::Result {
         match self {
@@ -206,7 +213,9 @@ impl<T: fmt::Display> fmt::Display for TypeBoundParameter<T> {
     }
 }
 
-impl<T: fmt::Display> fmt::Display for WhereClause<T> {
+impl<T: Shown> fmt::Display for WhereClause<T> {
+    ghost output = { λ x. Some (file_clause_text T.text x) };
+
     /// `'a: 'b + 'c` or `for<'a> A: x + y`.
     fn fmt<W: fmt::Write>(&self, f: &mut fmt::Formatter<W>) -> fmt::Result {
         match self {
@@ -219,7 +228,7 @@ impl<T: fmt::Display> fmt::Display for WhereClause<T> {
                 write_binder(f, binder.as_slice())?;
                 ty.fmt(f)?;
                 f.write_str(": ")?;
-                write_listed(f, bounds.as_slice(), " + ")
+                write_joined(f, bounds.as_slice(), " + ")
             }
         }
     }
@@ -227,6 +236,24 @@ impl<T: fmt::Display> fmt::Display for WhereClause<T> {
 
 impl Shown for TypeParameter {
     ghost text = { parameter_text };
+
+    ghost shows = { λ _. refl };
+}
+
+impl<T: Shown> Shown for TypeBoundParameter<T> {
+    ghost text = { bound_parameter_text T.text };
+
+    ghost shows = { λ _. refl };
+}
+
+impl<T: Shown> Shown for TypeBound<T> {
+    ghost text = { bound_text T.text };
+
+    ghost shows = { λ _. refl };
+}
+
+impl<T: Shown> Shown for WhereClause<T> {
+    ghost text = { file_clause_text T.text };
 
     ghost shows = { λ _. refl };
 }

@@ -2,7 +2,9 @@
 
 ghost use Rattle.std.specs.Prelude.{◌++◌, Some, refl, codes, decimal};
 ghost use Rattle.std.specs.Fmt.{WritesOnOk};
+ghost use Rattle.std.specs.List.{join_by};
 ghost use Rattle.lp_repr.specs.Shown.{terminal_text, symbol_text, production_text, pattern_text};
+ghost use Rattle.lp_repr.specs.ShownTypes.{tuple_text, parameters_text, ret_text, arguments_text, reference_text, fn_head_text, type_text, nominal_text, clause_text};
 
 use crate::escaped::Escaped;
 use crate::joined::{Shown, write_joined};
@@ -283,6 +285,8 @@ impl fmt::Display for TokenPattern {
 }
 
 impl fmt::Display for TypeRepr {
+    ghost output = { λ x. Some (type_text x) };
+
     /// `(A, B)`, `(A,)`, `[A]`, `p::q<A, B>`, `T::I`, `dyn p<A>`, `'a`, `&'a mut A` or
     /// `dyn for<'a> p(A) -> B`.
     #[cycle(type_fmt)]
@@ -332,7 +336,9 @@ fn write_fn_head<W: fmt::Write>(
     f: &mut fmt::Formatter<W>,
     binder: &Vec<TypeParameter>,
     path: &Path,
-) -> fmt::Result {
+) -> fmt::Result
+    ensures { WritesOnOk W.write_str_gives f.old result (fn_head_text binder.now.items path.now) f.new }
+{
     f.write_str("dyn ")?;
     write_binder(f, binder.as_slice())?;
     path.fmt(f)
@@ -343,7 +349,9 @@ fn write_fn_head<W: fmt::Write>(
 fn write_parameters<W: fmt::Write>(
     f: &mut fmt::Formatter<W>,
     parameters: &Vec<TypeRepr>,
-) -> fmt::Result {
+) -> fmt::Result
+    ensures { WritesOnOk W.write_str_gives f.old result (parameters_text type_text parameters.now.items) f.new }
+{
     f.write_str("(")?;
     write_types(f, parameters.as_slice())?;
     f.write_str(")")
@@ -351,7 +359,9 @@ fn write_parameters<W: fmt::Write>(
 
 /// ` -> C`, or nothing.
 #[cycle(type_fmt)]
-fn write_ret<W: fmt::Write>(f: &mut fmt::Formatter<W>, ret: &Option<Box<TypeRepr>>) -> fmt::Result {
+fn write_ret<W: fmt::Write>(f: &mut fmt::Formatter<W>, ret: &Option<Box<TypeRepr>>) -> fmt::Result
+    ensures { WritesOnOk W.write_str_gives f.old result (ret_text (λ b. type_text b.value) ret.now) f.new }
+{
     match ret {
         None => Ok(()),
         Some(ret) => {
@@ -366,7 +376,9 @@ fn write_reference<W: fmt::Write>(
     f: &mut fmt::Formatter<W>,
     lifetime: &Option<String>,
     mutable: bool,
-) -> fmt::Result {
+) -> fmt::Result
+    ensures { WritesOnOk W.write_str_gives f.old result (reference_text lifetime.now mutable) f.new }
+{
     f.write_str("&")?;
     if let Some(name) = lifetime {
         f.write_str(name.as_str())?;
@@ -377,7 +389,9 @@ fn write_reference<W: fmt::Write>(
 
 /// `(A, B)`, or `(A,)` for one type.
 #[cycle(type_fmt)]
-fn write_tuple<W: fmt::Write>(f: &mut fmt::Formatter<W>, types: &[TypeRepr]) -> fmt::Result {
+fn write_tuple<W: fmt::Write>(f: &mut fmt::Formatter<W>, types: &[TypeRepr]) -> fmt::Result
+    ensures { WritesOnOk W.write_str_gives f.old result (tuple_text type_text types.now) f.new }
+{
     f.write_str("(")?;
     write_types(f, types)?;
     f.write_str(if types.len() == 1 { ",)" } else { ")" })
@@ -385,31 +399,51 @@ fn write_tuple<W: fmt::Write>(f: &mut fmt::Formatter<W>, types: &[TypeRepr]) -> 
 
 /// The types, joined by `, `.
 #[cycle(type_fmt)]
-fn write_types<W: fmt::Write>(f: &mut fmt::Formatter<W>, types: &[TypeRepr]) -> fmt::Result {
-    for (i, ty) in types.iter().enumerate() {
-        if i > 0 {
-            f.write_str(", ")?;
-        }
+fn write_types<W: fmt::Write>(f: &mut fmt::Formatter<W>, types: &[TypeRepr]) -> fmt::Result
+    ensures { WritesOnOk W.write_str_gives f.old result (join_by type_text (codes ", ") types.now) f.new }
+{
+    let mut separator = "";
+    for ty in types {
+        f.write_str(separator)?;
         ty.fmt(f)?;
+        separator = ", ";
     }
     Ok(())
 }
 
+/// `<A, B>`, or nothing for no arguments.
+#[cycle(type_fmt)]
+fn write_arguments<W: fmt::Write>(f: &mut fmt::Formatter<W>, types: &[TypeRepr]) -> fmt::Result
+    ensures { WritesOnOk W.write_str_gives f.old result (arguments_text type_text types.now) f.new }
+{
+    if types.is_empty() {
+        return Ok(());
+    }
+    f.write_str("<")?;
+    write_types(f, types)?;
+    f.write_str(">")
+}
+
 impl fmt::Display for NominalTypeRepr {
+    ghost output = { λ x. Some (nominal_text x) };
+
     /// `p::q<A, B>`, or the path alone without arguments.
     #[cycle(type_fmt)]
     fn fmt<W: fmt::Write>(&self, f: &mut fmt::Formatter<W>) -> fmt::Result {
         self.path.fmt(f)?;
-        if self.types.is_empty() {
-            return Ok(());
-        }
-        f.write_str("<")?;
-        write_types(f, self.types.as_slice())?;
-        f.write_str(">")
+        write_arguments(f, self.types.as_slice())
     }
 }
 
+impl Shown for TypeRepr {
+    ghost text = { type_text };
+
+    ghost shows = { λ _. refl };
+}
+
 impl fmt::Display for WhereClause {
+    ghost output = { λ x. Some (clause_text x) };
+
     /// `for<'a> c` or `A: bound`.
     fn fmt<W: fmt::Write>(&self, f: &mut fmt::Formatter<W>) -> fmt::Result {
         match self {
@@ -426,4 +460,28 @@ impl fmt::Display for WhereClause {
             }
         }
     }
+}
+
+impl Shown for NonterminalString {
+    ghost text = { λ x. x.0 };
+
+    ghost shows = { λ _. refl };
+}
+
+impl Shown for TerminalString {
+    ghost text = { terminal_text };
+
+    ghost shows = { λ _. refl };
+}
+
+impl Shown for Production {
+    ghost text = { production_text };
+
+    ghost shows = { λ _. refl };
+}
+
+impl Shown for WhereClause {
+    ghost text = { clause_text };
+
+    ghost shows = { λ _. refl };
 }
