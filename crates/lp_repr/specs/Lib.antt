@@ -10,3 +10,4 @@ pub mod Escapes
 pub mod Shown
 pub mod ShownTypes
 pub mod ShownValues
+pub mod ShownItems
