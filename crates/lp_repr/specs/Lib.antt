@@ -13,3 +13,4 @@ pub mod Matching
 pub mod TypeOrder
 pub mod ShownTypes
 pub mod ShownValues
+pub mod ShownItems

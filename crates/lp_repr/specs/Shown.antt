@@ -1,5 +1,5 @@
 -- How names, paths and bounds are shown: their bytes.
-use Rattle.std.specs.Prelude.{ℕ, List, [], ◌∷◌, ◌++◌, Option, None, Some, codes, decimal, if◌then◌else◌}
+use Rattle.std.specs.Prelude.{ℕ, List, [], ◌∷◌, ◌++◌, None, Some, codes, decimal, if◌then◌else◌}
 use Rattle.std.specs.List.{join_by}
 use Rattle.lp_repr.specs.declared.parse_tree.TypeParameter.{TypeParameter}
 use Rattle.lp_repr.specs.declared.parse_tree.TypeParameter.TheVariants as parameter

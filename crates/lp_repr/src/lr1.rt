@@ -1,7 +1,12 @@
 //! LR(1) states, which name terminals, productions and nonterminals by number.
 
+ghost use Rattle.std.specs.Prelude.{Some, codes};
+ghost use Rattle.std.specs.List.{join_by};
+ghost use Rattle.std.specs.Fmt.{WritesOnOk};
+ghost use Rattle.lp_repr.specs.ShownItems.{named_token_text, dotted_text, item_text};
+
 use crate::joined::write_after_each;
-use crate::repr::{NonterminalString, Production, TerminalSet};
+use crate::repr::{NonterminalString, Production, Symbol, TerminalSet};
 use crate::text::Items;
 use std::collections::BTreeMap;
 use std::fmt;
@@ -52,14 +57,10 @@ pub struct ShownToken<'a> {
 }
 
 impl fmt::Display for ShownToken<'_> {
+    ghost output = { λ x. Some (named_token_text x.terminals.now x.token) };
+
     fn fmt<W: fmt::Write>(&self, f: &mut fmt::Formatter<W>) -> fmt::Result {
-        match self.token {
-            Token::Eof => f.write_str("EOF"),
-            Token::Terminal(number) => match self.terminals.all.as_slice().get(number) {
-                None => Ok(()),
-                Some(terminal) => terminal.fmt(f),
-            },
-        }
+        write_token(f, self.terminals, &self.token)
     }
 }
 
@@ -73,18 +74,30 @@ pub struct ShownItem<'a> {
 }
 
 impl fmt::Display for ShownItem<'_> {
+    ghost output = { λ x. Some (item_text x.terminals.now x.production.now x.item.now) };
+
     fn fmt<W: fmt::Write>(&self, f: &mut fmt::Formatter<W>) -> fmt::Result {
-        let symbols = self.production.symbols.as_slice();
-        let dot = self.item.index.min(symbols.len());
         self.production.nonterminal.fmt(f)?;
         f.write_str(" =")?;
-        write_after_each(f, &symbols[..dot], " ")?;
-        f.write_str(" (*)")?;
-        write_after_each(f, &symbols[dot..], " ")?;
+        write_dotted(f, self.item.index, self.production.symbols.as_slice())?;
         f.write_str(" [")?;
         write_tokens(f, self.terminals, self.item.lookahead.as_slice())?;
         f.write_str("]")
     }
+}
+
+/// ` s (*) t`
+fn write_dotted<W: fmt::Write>(
+    f: &mut fmt::Formatter<W>,
+    index: usize,
+    symbols: &[Symbol],
+) -> fmt::Result
+    ensures { WritesOnOk W.write_str_gives f.old result (dotted_text index symbols.now) f.new }
+{
+    let dot = index.min(symbols.len());
+    write_after_each(f, &symbols[..dot], " ")?;
+    f.write_str(" (*)")?;
+    write_after_each(f, &symbols[dot..], " ")
 }
 
 /// The tokens with their names, joined by `, `.
@@ -92,13 +105,31 @@ fn write_tokens<W: fmt::Write>(
     f: &mut fmt::Formatter<W>,
     terminals: &TerminalSet,
     tokens: &[Token],
-) -> fmt::Result {
-    for (i, token) in tokens.iter().enumerate() {
-        if i > 0 {
-            f.write_str(", ")?;
-        }
-        let token = *token;
-        ShownToken { terminals, token }.fmt(f)?;
+) -> fmt::Result
+    ensures { WritesOnOk W.write_str_gives f.old result (join_by (named_token_text terminals.now) (codes ", ") tokens.now) f.new }
+{
+    let mut separator = "";
+    for token in tokens {
+        f.write_str(separator)?;
+        write_token(f, terminals, token)?;
+        separator = ", ";
     }
     Ok(())
+}
+
+/// The token with its name.
+fn write_token<W: fmt::Write>(
+    f: &mut fmt::Formatter<W>,
+    terminals: &TerminalSet,
+    token: &Token,
+) -> fmt::Result
+    ensures { WritesOnOk W.write_str_gives f.old result (named_token_text terminals.now token.now) f.new }
+{
+    match token {
+        Token::Eof => f.write_str("EOF"),
+        Token::Terminal(number) => match terminals.all.as_slice().get(*number) {
+            None => Ok(()),
+            Some(terminal) => terminal.fmt(f),
+        },
+    }
 }
