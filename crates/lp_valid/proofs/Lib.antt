@@ -5,4 +5,5 @@ pub mod Lookups
 pub mod NewThings
 pub mod Pieces
 pub mod Sides
+pub mod SymbolSets
 pub mod Words

@@ -6,12 +6,11 @@ ghost use Rattle.std.specs.Option.{option_map};
 ghost use Rattle.lp_repr.specs.Numbering.{productions_of};
 ghost use Rattle.lp_valid.specs.Places.{IsFirstFailing};
 ghost use Rattle.lp_valid.specs.Refusals.{RefusesGrammar};
-ghost use Rattle.lp_valid.specs.ValidGrammar.{GrammarRule, number, HoldsBelow, names, types, counts, fallibles, error_terminal, distinct_terminals, ActionsAreNamed, ParametersAreNamed, Says, IsValidGrammar};
+ghost use Rattle.lp_valid.specs.ValidGrammar.{GrammarRule, number, HoldsBelow, names, symbols, types, counts, fallibles, error_terminal, distinct_terminals, ActionsAreNamed, ParametersAreNamed, Says, IsValidGrammar};
 
-use crate::declared::Declared;
 use crate::repeats::failing_repeat;
 use crate::starts::failing_start;
-use crate::{actions, spelling, terminals};
+use crate::{actions, declared, spelling, terminals};
 use lp_repr::numbering::productions;
 use lp_repr::repr::{Grammar, Production};
 use std::alloc::{AllocError, Global};
@@ -75,11 +74,10 @@ fn check_symbols<'g>(
     requires { map deref productions.now ≡ productions_of grammar.now }
     ensures { MatchResult result (λ _. HoldsBelow grammar.now 6) (RefusesGrammar grammar.now) }
 {
-    let declared = Declared::new(alloc, grammar, productions)?;
     passes(grammar, 1, failing_start(alloc, grammar, productions)?)?;
     passes(grammar, 2, failing_names(grammar)?)?;
     passes(grammar, 3, spelling::failing_prefix(alloc, grammar)?)?;
-    passes(grammar, 4, declared.failing_symbols(alloc)?)?;
+    passes(grammar, 4, failing_symbols(alloc, grammar, productions)?)?;
     passes(grammar, 5, failing_types(grammar)?)
 }
 
@@ -134,6 +132,26 @@ fn failing_action_names(grammar: &Grammar) -> Option<usize>
         return None;
     }
     Some(actions.len())
+}
+
+/// The first production, and then the first action, that names what isn't declared; a production
+/// fails also where an equal one stands before it, or under another nonterminal.
+fn failing_symbols<'g>(
+    alloc: Global,
+    grammar: &'g Grammar,
+    productions: &[&'g Production],
+) -> Result<Option<usize>, AllocError>
+    requires { map deref productions.now ≡ productions_of grammar.now }
+    ensures { IfOk result (IsFirstFailing (Says grammar.now symbols)) }
+{
+    let terminals = declared::terminals(alloc, grammar)?;
+    if let Some(place) = declared::failing_production(alloc, grammar, &terminals, productions)? {
+        return Ok(Some(place));
+    }
+    after(
+        productions.len(),
+        declared::failing_action(grammar, &terminals),
+    )
 }
 
 /// The first terminal, and then the first nonterminal, without a type; a terminal but the error
