@@ -1,3 +1,4 @@
+pub mod Walks
 pub mod ErrorTerminal
 pub mod FirstFailing
 pub mod LeastFailure

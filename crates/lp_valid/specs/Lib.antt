@@ -1,4 +1,5 @@
 pub mod ActionRules
+pub mod InlineRules
 pub mod Members
 pub mod NameRules
 pub mod Places
@@ -8,3 +9,4 @@ pub mod StartRules
 pub mod SymbolRules
 pub mod TerminalRules
 pub mod ValidGrammar
+pub mod Walk

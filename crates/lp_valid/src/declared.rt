@@ -168,7 +168,7 @@ fn keys<'g>(alloc: Global, productions: &[&'g Production]) -> Result<Vec<Key<'g>
 }
 
 /// The lesser of two places.
-fn least(first: Option<usize>, second: Option<usize>) -> Option<usize>
+pub(crate) fn least(first: Option<usize>, second: Option<usize>) -> Option<usize>
     ensures { result ≡ least first second }
 {
     match first {

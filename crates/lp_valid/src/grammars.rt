@@ -6,8 +6,9 @@ ghost use Rattle.std.specs.Option.{option_map};
 ghost use Rattle.lp_repr.specs.Numbering.{productions_of};
 ghost use Rattle.lp_valid.specs.Places.{IsFirstFailing};
 ghost use Rattle.lp_valid.specs.Refusals.{RefusesGrammar};
-ghost use Rattle.lp_valid.specs.ValidGrammar.{GrammarRule, number, HoldsBelow, names, symbols, types, counts, fallibles, error_terminal, distinct_terminals, ActionsAreNamed, ParametersAreNamed, Says, IsValidGrammar};
+ghost use Rattle.lp_valid.specs.ValidGrammar.{GrammarRule, number, HoldsBelow, names, symbols, types, counts, inlines, fallibles, error_terminal, distinct_terminals, ActionsAreNamed, ParametersAreNamed, Says, IsValidGrammar};
 
+use crate::circles::failing_inline;
 use crate::repeats::failing_repeat;
 use crate::starts::failing_start;
 use crate::{actions, declared, spelling, terminals};
@@ -92,8 +93,7 @@ fn check_actions(
     ensures { MatchResult result (λ _. IsValidGrammar grammar.now) (RefusesGrammar grammar.now) }
 {
     passes(grammar, 6, failing_counts(grammar, productions)?)?;
-    let actions = grammar.action_fn_defns.as_slice();
-    passes(grammar, 7, actions::failing_circle(alloc, actions)?)?;
+    passes(grammar, 7, failing_inlines(alloc, grammar)?)?;
     passes(grammar, 8, failing_fallibles(grammar))?;
     passes(grammar, 9, failing_error_terminal(grammar)?)?;
     passes(grammar, 10, failing_distinct_terminals(alloc, grammar)?)
@@ -179,6 +179,12 @@ fn failing_counts(
         return Ok(Some(place));
     }
     after(productions.len(), actions::failing_action_count(actions))
+}
+
+fn failing_inlines(alloc: Global, grammar: &Grammar) -> Result<Option<usize>, AllocError>
+    ensures { IfOk result (IsFirstFailing (Says grammar.now inlines)) }
+{
+    failing_inline(alloc, grammar.action_fn_defns.as_slice())
 }
 
 fn failing_fallibles(grammar: &Grammar) -> Option<usize>
