@@ -1,10 +1,11 @@
 -- The first place at which a rule fails, from the first element of a list that fails a test.
-use Rattle.std.proofs.Common.{◌≡◌, ℕ, ◌+◌, ◌-◌, ◌<◌, ◌≤◌, zero, suc, Bool, true, false, not, cond, List, [], ◌∷◌, map, length, refl, arith, sym, ap, ◌∙◌, subst, Option, Some, None, IsTrue, IfSome, IfOk, Result, Ok, Err, slice_get, position}
+use Rattle.std.proofs.Common.{◌≡◌, ℕ, ◌+◌, ◌-◌, ◌<◌, ◌≤◌, min, zero, suc, Bool, true, false, not, cond, List, [], ◌∷◌, map, length, refl, arith, sym, ap, ◌∙◌, subst, Option, Some, None, IsTrue, IfSome, IfOk, Result, Ok, Err, position, ⊎_elim}
 use Rattle.std.specs.List.{position_from}
-use Rattle.std.specs.Option.{option_map, MatchOption}
+use Rattle.std.specs.Option.{option_map}
 use Rattle.std.proofs.lemmas.Iterator.Adapters.{position_from-zero}
 use Rattle.std.proofs.lemmas.Option.{slice_get_past}
-use Rattle.lp_valid.specs.Places.{EachPasses, Then, IsFirstFailing}
+use Rattle.std.proofs.lemmas.Bool.{cases_lt}
+use Rattle.lp_valid.specs.Places.{EachPasses, Then, Both, least, IsFirstFailing}
 
 -- the same, of places that are counted from i
 abbrev FirstFrom : ℕ → (ℕ → Type 0) → Option ℕ → Type 0
@@ -120,3 +121,16 @@ passes_alike p q e (x ∷ xs) (suc k) h = passes_alike p q e xs k h
 pub failing_alike : {X : Type 0} (p q : X → Bool) → ((x : X) → p x ≡ q x) → (xs : List X) (r : Option ℕ) → IsFirstFailing (EachPasses p xs) r → IsFirstFailing (EachPasses q xs) r
 failing_alike p q e xs None h = λ k. passes_alike p q e xs k (h k)
 failing_alike p q e xs (Some k) h = (λ is. h.0 (passes_alike q p (λ x. sym (e x)) xs k is), λ j less. passes_alike p q e xs j (h.1 j less))
+
+-- the lesser place of two rules' failures
+lesser_of : (First Second : ℕ → Type 0) (i j k : ℕ) → k ≡ min i j → ((i ≤ j → ¬ First i) × (j ≤ i → ¬ Second j)) → ((l : ℕ) → l < i → First l) → ((l : ℕ) → l < j → Second l) → IsFirstFailing (Both First Second) (Some k)
+lesser_of First Second i j k e h first second = (
+  λ both. ⊎_elim (λ less. h.1 (omega arith) (subst Second (omega arith) both.1)) (λ more. h.0 more (subst First (omega arith) both.0)) (cases_lt j i),
+  λ l less. (first l (omega arith), second l (omega arith)),
+)
+
+pub first_of_both : (First Second : ℕ → Type 0) (a b : Option ℕ) → IsFirstFailing First a → IsFirstFailing Second b → IsFirstFailing (Both First Second) (least a b)
+first_of_both First Second None None h k = λ l. (h l, k l)
+first_of_both First Second None (Some j) h k = (λ both. k.0 both.1, λ l less. (h l, k.1 l less))
+first_of_both First Second (Some i) None h k = (λ both. h.0 both.0, λ l less. (h.1 l less, k l))
+first_of_both First Second (Some i) (Some j) h k = lesser_of First Second i j (min i j) refl (λ _. h.0, λ _. k.0) h.1 k.1

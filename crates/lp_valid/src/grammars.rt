@@ -6,12 +6,12 @@ ghost use Rattle.std.specs.Option.{option_map};
 ghost use Rattle.lp_repr.specs.Numbering.{productions_of};
 ghost use Rattle.lp_valid.specs.Places.{IsFirstFailing};
 ghost use Rattle.lp_valid.specs.Refusals.{RefusesGrammar};
-ghost use Rattle.lp_valid.specs.ValidGrammar.{GrammarRule, number, HoldsBelow, names, types, counts, fallibles, error_terminal, distinct_terminals, ActionsAreNamed, ParametersAreNamed, Says, IsValidGrammar};
+ghost use Rattle.lp_valid.specs.ValidGrammar.{GrammarRule, number, HoldsBelow, names, symbols, types, counts, inlines, fallibles, error_terminal, distinct_terminals, ActionsAreNamed, ParametersAreNamed, Says, IsValidGrammar};
 
-use crate::declared::Declared;
+use crate::circles::failing_inline;
 use crate::repeats::failing_repeat;
 use crate::starts::failing_start;
-use crate::{actions, spelling, terminals};
+use crate::{actions, declared, spelling, terminals};
 use lp_repr::numbering::productions;
 use lp_repr::repr::{Grammar, Production};
 use std::alloc::{AllocError, Global};
@@ -75,11 +75,10 @@ fn check_symbols<'g>(
     requires { map deref productions.now ≡ productions_of grammar.now }
     ensures { MatchResult result (λ _. HoldsBelow grammar.now 6) (RefusesGrammar grammar.now) }
 {
-    let declared = Declared::new(alloc, grammar, productions)?;
     passes(grammar, 1, failing_start(alloc, grammar, productions)?)?;
     passes(grammar, 2, failing_names(grammar)?)?;
     passes(grammar, 3, spelling::failing_prefix(alloc, grammar)?)?;
-    passes(grammar, 4, declared.failing_symbols(alloc)?)?;
+    passes(grammar, 4, failing_symbols(alloc, grammar, productions)?)?;
     passes(grammar, 5, failing_types(grammar)?)
 }
 
@@ -94,8 +93,7 @@ fn check_actions(
     ensures { MatchResult result (λ _. IsValidGrammar grammar.now) (RefusesGrammar grammar.now) }
 {
     passes(grammar, 6, failing_counts(grammar, productions)?)?;
-    let actions = grammar.action_fn_defns.as_slice();
-    passes(grammar, 7, actions::failing_circle(alloc, actions)?)?;
+    passes(grammar, 7, failing_inlines(alloc, grammar)?)?;
     passes(grammar, 8, failing_fallibles(grammar))?;
     passes(grammar, 9, failing_error_terminal(grammar)?)?;
     passes(grammar, 10, failing_distinct_terminals(alloc, grammar)?)
@@ -136,6 +134,26 @@ fn failing_action_names(grammar: &Grammar) -> Option<usize>
     Some(actions.len())
 }
 
+/// The first production, and then the first action, that names what isn't declared; a production
+/// fails also where an equal one stands before it, or under another nonterminal.
+fn failing_symbols<'g>(
+    alloc: Global,
+    grammar: &'g Grammar,
+    productions: &[&'g Production],
+) -> Result<Option<usize>, AllocError>
+    requires { map deref productions.now ≡ productions_of grammar.now }
+    ensures { IfOk result (IsFirstFailing (Says grammar.now symbols)) }
+{
+    let terminals = declared::terminals(alloc, grammar)?;
+    if let Some(place) = declared::failing_production(alloc, grammar, &terminals, productions)? {
+        return Ok(Some(place));
+    }
+    after(
+        productions.len(),
+        declared::failing_action(grammar, &terminals),
+    )
+}
+
 /// The first terminal, and then the first nonterminal, without a type; a terminal but the error
 /// terminal fails also without a pattern.
 fn failing_types(grammar: &Grammar) -> Result<Option<usize>, AllocError>
@@ -161,6 +179,12 @@ fn failing_counts(
         return Ok(Some(place));
     }
     after(productions.len(), actions::failing_action_count(actions))
+}
+
+fn failing_inlines(alloc: Global, grammar: &Grammar) -> Result<Option<usize>, AllocError>
+    ensures { IfOk result (IsFirstFailing (Says grammar.now inlines)) }
+{
+    failing_inline(alloc, grammar.action_fn_defns.as_slice())
 }
 
 fn failing_fallibles(grammar: &Grammar) -> Option<usize>

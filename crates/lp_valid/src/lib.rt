@@ -2,6 +2,7 @@
 #![tactic(auto)]
 
 mod actions;
+mod circles;
 mod declared;
 mod grammars;
 mod item_sets;
