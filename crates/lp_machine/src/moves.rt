@@ -245,7 +245,7 @@ impl Input<'_> {
         ensures { IfOk result (λ _. config.new ≡ tried (tables_of self.now.tables) self.now.items.now config.old listing i verdict) }
     {
         match verdict {
-            Verdict::Yes => match self.tables.terminals.get(i) {
+            Verdict::Yes => match self.tables.known(i) {
                 None => self.tries_next(config, listing, plus(i, 1)?),
                 Some(terminal) => {
                     let more = with_name(listing, &terminal.name)?;

@@ -12,4 +12,4 @@ returns c =
     let t = tables_of c.in_ok-tables.tables in
     let stands : Config → Standing = λ (x : Config). record { tables = t; items = items; config = Some x } in
     let begins : Tables → Standing = λ (x : Tables). record { tables = x; items = items; config = Some (first x items) } in
-    (?, ap stands c.in_ok-first.ensures ∙ ap begins c.in_ok-tables.ensures)
+    (first_of (cc, cc (ap length c.as_slice.ensures), omega arith), ap stands c.in_ok-first.ensures ∙ ap begins c.in_ok-tables.ensures)
