@@ -19,3 +19,6 @@ pub mod verdict;
 mod views;
 
 pub use machine::{Machine, MachineRun};
+
+#[cfg(test)]
+mod tests;
