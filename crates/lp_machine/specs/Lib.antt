@@ -7,6 +7,7 @@ pub mod StackMachine
 pub mod Recovery
 pub mod Moves
 pub mod Move
+pub mod MachineRun
 pub mod TablesView
 pub mod GrammarTables
 pub mod RunEnds

@@ -108,6 +108,13 @@ impl Compiled<'_> {
         self.rules.get(production).copied()
     }
 
+    /// The terminal of a number.
+    pub fn known(&self, terminal: usize) -> Option<&KnownTerminal>
+        ensures { option_copied result ≡ slice_get self.now.terminals.items terminal }
+    {
+        self.terminals.get(terminal)
+    }
+
     /// The first terminal that a token matches.
     pub fn terminal(&self, token: &TokenValue) -> Option<usize>
         ensures { result ≡ (tables_of self.now).terminal token.now }

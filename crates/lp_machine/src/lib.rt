@@ -1,5 +1,5 @@
-//! What the stack machine over LR(1) states stands on: the tables of a grammar, the meaning of its
-//! actions, trials and expected lists, and the laws of the machine's moves.
+//! The stack machine over LR(1) states: the tables of a grammar, the meaning of its actions, its
+//! moves, and their laws.
 #![tactic(auto)]
 
 pub mod actions;
@@ -11,5 +11,14 @@ mod grammar;
 pub mod laws;
 mod lists;
 pub mod lookup;
+pub mod machine;
+mod moves;
+mod next;
 pub mod terms;
 pub mod verdict;
+mod views;
+
+pub use machine::{Machine, MachineRun};
+
+#[cfg(test)]
+mod tests;
