@@ -2,6 +2,7 @@
 #![tactic(auto)]
 
 mod actions;
+mod apart;
 mod circles;
 mod declared;
 mod grammars;
@@ -13,6 +14,8 @@ mod spelling;
 mod starts;
 mod tables;
 mod terminals;
+#[cfg(test)]
+mod tests;
 
 pub use grammars::{GrammarFault, check_grammar};
 pub use names::is_identifier;
