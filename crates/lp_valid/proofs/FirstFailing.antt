@@ -5,7 +5,8 @@ use Rattle.std.specs.Option.{option_map}
 use Rattle.std.proofs.lemmas.Iterator.Adapters.{position_from-zero}
 use Rattle.std.proofs.lemmas.Option.{slice_get_past}
 use Rattle.std.proofs.lemmas.Bool.{cases_lt}
-use Rattle.lp_valid.specs.Places.{EachPasses, Then, Both, least, IsFirstFailing}
+use Rattle.std.proofs.lemmas.List.{length-map}
+use Rattle.lp_valid.specs.Places.{EachPasses, Then, Both, then_place, least, IsFirstFailing}
 
 -- the same, of places that are counted from i
 abbrev FirstFrom : ℕ → (ℕ → Type 0) → Option ℕ → Type 0
@@ -134,3 +135,29 @@ first_of_both First Second None None h k = λ l. (h l, k l)
 first_of_both First Second None (Some j) h k = (λ both. k.0 both.1, λ l less. (h l, k.1 l less))
 first_of_both First Second (Some i) None h k = (λ both. h.0 both.0, λ l less. (h.1 l less, k l))
 first_of_both First Second (Some i) (Some j) h k = lesser_of First Second i j (min i j) refl (λ _. h.0, λ _. k.0) h.1 k.1
+
+told_of : {E : Type 0} (P : Option ℕ → Type 0) (q : Option ℕ) (r : Result (Option ℕ) E) → P q → IfOk r (λ p. p ≡ q) → IfOk r P
+told_of P q (Ok p) h e = subst P (sym e) h
+told_of P q (Err x) h e = tt
+
+-- the first failure in a list and then in another rule
+pub then_list : {X E : Type 0} (test : X → Bool) (xs : List X) (Second : ℕ → Type 0) (n : ℕ) (first second : Option ℕ) (r : Result (Option ℕ) E) → n ≡ length xs → IsFirstFailing (EachPasses test xs) first → IsFirstFailing Second second → IfOk r (λ p. p ≡ then_place n first second) → IfOk r (IsFirstFailing (Then (length xs) (EachPasses test xs) Second))
+then_list test xs Second n None second r same h k e = after_those n (length xs) (EachPasses test xs) Second second r same h k e
+then_list test xs Second n (Some first) second r same h k e =
+    told_of (IsFirstFailing (Then (length xs) (EachPasses test xs) Second)) (Some first) r (first_of_two (length xs) (EachPasses test xs) Second first (fails_within test xs first h.0) h) e
+
+-- maps have as many keys and values as entries
+pub keys_length : {K X : Type 0} (es : List (K × X)) (n : ℕ) → n ≡ length es → n ≡ length (map (λ (e : K × X). e.0) es)
+keys_length es n e = e ∙ sym (length-map es (λ e. e.0))
+
+pub values_length : {K X : Type 0} (es : List (K × X)) (n : ℕ) → n ≡ length es → n ≡ length (map (λ (e : K × X). e.1) es)
+values_length es n e = e ∙ sym (length-map es (λ e. e.1))
+
+-- the same, of a slice of the list, and of references to its elements
+pub then_slice : {X E : Type 0} (test : X → Bool) (xs ys : List X) (Second : ℕ → Type 0) (first second : Option ℕ) (r : Result (Option ℕ) E) → xs ≡ ys → IsFirstFailing (EachPasses test xs) first → IsFirstFailing Second second → IfOk r (λ p. p ≡ then_place (length xs) first second) → IfOk r (IsFirstFailing (Then (length ys) (EachPasses test ys) Second))
+then_slice test xs ys Second first second r same h k e =
+    subst (λ zs. IfOk r (IsFirstFailing (Then (length zs) (EachPasses test zs) Second))) same (then_list test xs Second (length xs) first second r refl h k e)
+
+pub then_images : {X Y E : Type 0} (f : X → Y) (test : Y → Bool) (xs : List X) (ys : List Y) (Second : ℕ → Type 0) (first second : Option ℕ) (r : Result (Option ℕ) E) → map f xs ≡ ys → IsFirstFailing (EachPasses test (map f xs)) first → IsFirstFailing Second second → IfOk r (λ p. p ≡ then_place (length xs) first second) → IfOk r (IsFirstFailing (Then (length ys) (EachPasses test ys) Second))
+then_images f test xs ys Second first second r same h k e =
+    subst (λ zs. IfOk r (IsFirstFailing (Then (length zs) (EachPasses test zs) Second))) same (then_list test (map f xs) Second (length xs) first second r (sym (length-map xs f)) h k e)

@@ -1,3 +1,4 @@
+pub mod ClearTypes
 pub mod Walks
 pub mod ErrorTerminal
 pub mod FirstFailing

@@ -3,6 +3,8 @@ pub mod InlineRules
 pub mod Members
 pub mod NameRules
 pub mod Places
+pub mod PrefixParts
+pub mod PrefixRules
 pub mod ProductionKeys
 pub mod Refusals
 pub mod StartRules

@@ -1,6 +1,7 @@
 -- Rules over things that are counted through in their order: a thing's number is its place.
-use Rattle.std.specs.Prelude.{◌≡◌, ℕ, ◌-◌, ◌<◌, ◌≤◌, min, Bool, false, List, take, Option, None, Some, IsTrue, IfSome, slice_get}
+use Rattle.std.specs.Prelude.{◌≡◌, ℕ, ◌+◌, ◌-◌, ◌<◌, ◌≤◌, min, Bool, false, List, take, Option, None, Some, IsTrue, IfSome, slice_get}
 use Rattle.std.specs.List.{list_any}
+use Rattle.std.specs.Option.{option_map}
 use Rattle.std.specs.Ordering.{is_eq}
 use Rattle.std.specs.declared.cmp.Ordering.{Ordering}
 
@@ -16,6 +17,11 @@ Then n First Second place = (place < n → First place) × (n ≤ place → Seco
 abbrev pub IsFirstFailing : (ℕ → Type 0) → Option ℕ → Type 0
 IsFirstFailing Holds None = (place : ℕ) → Holds place
 IsFirstFailing Holds (Some place) = (¬ Holds place) × ((lesser : ℕ) → lesser < place → Holds lesser)
+
+-- the place of the first failure of these two, by those of each
+abbrev pub then_place : ℕ → Option ℕ → Option ℕ → Option ℕ
+then_place n None second = option_map (λ place. n + place) second
+then_place n (Some first) second = Some first
 
 -- two rules over the same things
 abbrev pub Both : (ℕ → Type 0) → (ℕ → Type 0) → ℕ → Type 0

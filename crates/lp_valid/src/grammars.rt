@@ -4,10 +4,11 @@ ghost use Rattle.std.specs.Prelude.{◌≡◌, ◌+◌, ◌≤◌, map, IfOk, Ma
 ghost use Rattle.std.specs.Map.Iter.{deref};
 ghost use Rattle.std.specs.Option.{option_map};
 ghost use Rattle.lp_repr.specs.Numbering.{productions_of};
-ghost use Rattle.lp_valid.specs.Places.{IsFirstFailing};
+ghost use Rattle.lp_valid.specs.Places.{IsFirstFailing, then_place};
 ghost use Rattle.lp_valid.specs.Refusals.{RefusesGrammar};
 ghost use Rattle.lp_valid.specs.ValidGrammar.{GrammarRule, number, HoldsBelow, names, symbols, types, counts, inlines, fallibles, error_terminal, distinct_terminals, ActionsAreNamed, ParametersAreNamed, Says, IsValidGrammar};
 
+use crate::apart::failing_prefix;
 use crate::circles::failing_inline;
 use crate::repeats::failing_repeat;
 use crate::starts::failing_start;
@@ -77,7 +78,7 @@ fn check_symbols<'g>(
 {
     passes(grammar, 1, failing_start(alloc, grammar, productions)?)?;
     passes(grammar, 2, failing_names(grammar)?)?;
-    passes(grammar, 3, spelling::failing_prefix(alloc, grammar)?)?;
+    passes(grammar, 3, failing_prefix(alloc, grammar)?)?;
     passes(grammar, 4, failing_symbols(alloc, grammar, productions)?)?;
     passes(grammar, 5, failing_types(grammar)?)
 }
@@ -228,6 +229,20 @@ fn after(before: usize, failing: Option<usize>) -> Result<Option<usize>, AllocEr
     }
 }
 
+/// The first failing place of a list of so many things and of what stands after them.
+pub(crate) fn then(
+    count: usize,
+    first: Option<usize>,
+    second: Option<usize>,
+) -> Result<Option<usize>, AllocError>
+    ensures { IfOk result (λ place. place ≡ then_place count first second) }
+{
+    match first {
+        Some(place) => Ok(Some(place)),
+        None => after(count, second),
+    }
+}
+
 /// Refuses where the rule has a failing place.
 fn passes(_grammar: &Grammar, rule: u8, failing: Option<usize>) -> Result<(), GrammarFault>
     requires low { 1 ≤ rule }
@@ -239,13 +254,5 @@ fn passes(_grammar: &Grammar, rule: u8, failing: Option<usize>) -> Result<(), Gr
     match failing {
         None => Ok(()),
         Some(place) => Err(GrammarFault::Rule { rule, place }),
-    }
-}
-
-/// A failing place of a list whose places begin with a number.
-pub(crate) fn from_place(before: usize, failing: Option<usize>) -> Option<usize> {
-    match failing {
-        None => None,
-        Some(place) => Some(before.saturating_add(place)),
     }
 }

@@ -2,6 +2,7 @@
 #![tactic(auto)]
 
 mod actions;
+mod apart;
 mod circles;
 mod declared;
 mod grammars;
