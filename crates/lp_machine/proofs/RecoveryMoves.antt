@@ -105,7 +105,7 @@ module _ (items : List RunItem) (w : Driver Value) (taken : ℕ) (rest : w.items
         valued = λ calls value. Comes (Gives value) (with_calls (with_steps d k) calls) _ (0, refl) refl refl;
         failed = λ calls f. Comes (Fails f) (with_calls (with_steps d k) calls) _ (0, refl) refl refl;
         goes = λ calls states symbols. Goes _ (with_calls (with_steps d k) calls) taken refl (record { rest = rest; ends = ends; begin = begin })
-          (0, ready_mending r.lookahead ends t (stacks_of (record w { states = states; symbols = symbols }) (d.calls ++ calls) taken r.lookahead (Some (mending_of r))) (mending_of r));
+            (0, ready_mending r.lookahead ends t (stacks_of (record w { states = states; symbols = symbols }) (d.calls ++ calls) taken r.lookahead (Some (mending_of r))) (mending_of r));
       }) (looks t items c) p))))
 
   pub reducing_goes : (r : Recovering) → EndsWith r.lookahead w.items → (d : TableDefinition) → Follows (tables_in d) items (asks_error (tables_in d) items (here d r)) (turn.reducing table_answers w r d)
@@ -161,9 +161,11 @@ module _ (items : List RunItem) (w : Driver Value) (taken : ℕ) (rest : w.items
       let x : Value = Recovered (record { error = r.error; dropped = r.dropped }) in
       let at = lookahead_start (in_hand r.lookahead) in
       asked t items _ d.left d _ _ (λ k.
-      Goes _ (with_steps d k) taken refl (record { rest = rest; ends = tt; begin = begin })
-      (0, sym (ap (λ ns. ready t items (record c { states = ns; triples = take place w.symbols ++ turn.error_span table_answers w r place x ∷ []; mending = None })) (prefix_numbers (place + 1) to w.states)
-      ∙ ap (λ (s : Spanned Value). ready t items (record c { states = take (place + 1) c.states ++ to ∷ []; triples = take place w.symbols ++ s ∷ []; mending = None })) (span_same r place x))))
+      Goes _ (with_steps d k) taken refl (record { rest = rest; ends = tt; begin = begin }) (
+        0,
+        sym (ap (λ ns. ready t items (record c { states = ns; triples = take place w.symbols ++ turn.error_span table_answers w r place x ∷ []; mending = None })) (prefix_numbers (place + 1) to w.states)
+            ∙ ap (λ (s : Spanned Value). ready t items (record c { states = take (place + 1) c.states ++ to ∷ []; triples = take place w.symbols ++ s ∷ []; mending = None })) (span_same r place x)),
+      ))
 
   -- a place that serves
   served_does : (r : Recovering) → EndsWith r.lookahead w.items → (d : TableDefinition) (place : ℕ) (act : Act)
