@@ -1,6 +1,6 @@
 //! Grammars of worked examples, with their states.
 
-use super::tables::{Example, Row, Sign, example, grammar, inline, look, user};
+use super::tables::{Example, Row, Sign, grammar, inline, look, user, with_states};
 use lp_repr::lr1::Token;
 use lp_repr::repr::{ActionFnDefn, LookaroundActionFn};
 use std::alloc::{AllocError, Global};
@@ -65,7 +65,7 @@ pub fn one_token(alloc: Global) -> Result<Example, AllocError> {
         &[("S", &[(A, 1)]), ("__S", &[(S, 0)])],
         start_and(alloc, " ()", true)?,
     )?;
-    example(alloc, grammar, ONE_TOKEN_STATES)
+    with_states(alloc, grammar, ONE_TOKEN_STATES)
 }
 
 const E: &[Sign] = &[Sign::Nonterminal("E")];
@@ -118,7 +118,7 @@ pub fn expressions(alloc: Global) -> Result<Example, AllocError> {
         ],
         start_and(alloc, "", false)?,
     )?;
-    example(alloc, grammar, EXPRESSIONS_STATES)
+    with_states(alloc, grammar, EXPRESSIONS_STATES)
 }
 
 const LOOKS_BETWEEN_STATES: &[Row] = &[
@@ -139,7 +139,7 @@ pub fn looks_between(alloc: Global) -> Result<Example, AllocError> {
         &[("S", &[(AB, 4)]), ("__S", &[(S, 0)])],
         actions,
     )?;
-    example(alloc, grammar, LOOKS_BETWEEN_STATES)
+    with_states(alloc, grammar, LOOKS_BETWEEN_STATES)
 }
 
 const LOOKS_AT_ENDS_STATES: &[Row] = &[
@@ -161,7 +161,7 @@ pub fn looks_at_ends(alloc: Global) -> Result<Example, AllocError> {
         &[("S", &[(B, 4), (A, 5)]), ("__S", &[(S, 0)])],
         actions,
     )?;
-    example(alloc, grammar, LOOKS_AT_ENDS_STATES)
+    with_states(alloc, grammar, LOOKS_AT_ENDS_STATES)
 }
 
 const EMPTY_BEFORE_STATES: &[Row] = &[
@@ -180,7 +180,7 @@ pub fn empty_before(alloc: Global) -> Result<Example, AllocError> {
         &[("S", &[(XA, 1)]), ("X", &[(&[], 1)]), ("__S", &[(S, 0)])],
         start_and(alloc, "", false)?,
     )?;
-    example(alloc, grammar, EMPTY_BEFORE_STATES)
+    with_states(alloc, grammar, EMPTY_BEFORE_STATES)
 }
 
 const MENDING_STATES: &[Row] = &[
@@ -199,7 +199,7 @@ pub fn mending(alloc: Global) -> Result<Example, AllocError> {
         &[("S", &[(A, 1), (ERROR, 1)]), ("__S", &[(S, 0)])],
         start_and(alloc, "", false)?,
     )?;
-    example(alloc, grammar, MENDING_STATES)
+    with_states(alloc, grammar, MENDING_STATES)
 }
 
 const ENDLESS_STATES: &[Row] = &[
@@ -224,5 +224,5 @@ pub fn endless(alloc: Global) -> Result<Example, AllocError> {
         ],
         start_and(alloc, "", false)?,
     )?;
-    example(alloc, grammar, ENDLESS_STATES)
+    with_states(alloc, grammar, ENDLESS_STATES)
 }

@@ -274,7 +274,7 @@ fn states(alloc: Global, rows: &[Row]) -> Result<Vec<Lr1State>, AllocError> {
 }
 
 /// A grammar with the states of these rows.
-pub fn example(alloc: Global, grammar: Grammar, rows: &[Row]) -> Result<Example, AllocError> {
+pub fn with_states(alloc: Global, grammar: Grammar, rows: &[Row]) -> Result<Example, AllocError> {
     let states = states(alloc, rows)?;
     Ok(Example { grammar, states })
 }
