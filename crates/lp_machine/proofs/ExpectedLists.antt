@@ -23,7 +23,7 @@ use Rattle.lp_machine.specs.Move.{tried, move, moves}
 use Rattle.lp_machine.proofs.MoreMoves.{moves_after}
 
 -- the rest of a list from one of its places
-at_place : {A : Type 0} (xs : List A) (i : ℕ) (x : A) (rest : List A) → drop i xs ≡ x ∷ rest → (slice_get xs i ≡ Some x) × (drop (i + 1) xs ≡ rest) × (i < length xs)
+pub at_place : {A : Type 0} (xs : List A) (i : ℕ) (x : A) (rest : List A) → drop i xs ≡ x ∷ rest → (slice_get xs i ≡ Some x) × (drop (i + 1) xs ≡ rest) × (i < length xs)
 at_place [] zero x rest h = cc
 at_place [] (suc i) x rest h = cc
 at_place (y ∷ xs) zero x rest h =
@@ -33,15 +33,15 @@ at_place (y ∷ xs) (suc i) x rest h =
     let e : suc i + 1 ≡ suc (i + 1) = omega arith in
     (r.0, ap (λ n. drop n (y ∷ xs)) e ∙ r.1, omega (arith, r.2))
 
-past_place : {A : Type 0} (xs : List A) (i : ℕ) → drop i xs ≡ [] → length xs ≤ i
+pub past_place : {A : Type 0} (xs : List A) (i : ℕ) → drop i xs ≡ [] → length xs ≤ i
 past_place [] i h = omega arith
 past_place (y ∷ xs) zero h = cc
 past_place (y ∷ xs) (suc i) h = let r = past_place xs i h in omega (arith, r)
 
-chosen : {A : Type 0} (b c : Bool) (x y : A) → b ≡ c → (if b then x else y) ≡ (if c then x else y)
+pub chosen : {A : Type 0} (b c : Bool) (x y : A) → b ≡ c → (if b then x else y) ≡ (if c then x else y)
 chosen b c x y e = ap (λ v. if v then x else y) e
 
-within : (a b : ℕ) → a < b → nat_lt a b ≡ true
+pub within : (a b : ℕ) → a < b → nat_lt a b ≡ true
 within a b h = grind (arith, nat_tests)
 
 module _ (t : Tables) where

@@ -4,3 +4,8 @@ pub mod ExpectedLists
 pub mod RecoveryChoice
 pub mod Inlining
 pub mod Params
+pub mod Trials
+pub mod TurnsMove
+pub mod ParsingMoves
+pub mod RecoveryMoves
+pub mod DriverMoves

@@ -1,5 +1,5 @@
 -- Moves one by one, and moves of a run that is over.
-use Rattle.std.proofs.Common.{◌≡◌, ℕ, zero, suc, ◌+◌, ◌-◌, ◌≤◌, Bool, true, false, List, Option, Some, None, refl, sym, ap, ◌∙◌, arith}
+use Rattle.std.proofs.Common.{◌≡◌, ℕ, zero, suc, ◌+◌, ◌-◌, ◌≤◌, Bool, true, false, List, Option, Some, None, refl, sym, ap, ◌∙◌, subst, arith}
 use Rattle.std.specs.Prelude.{is_some}
 use Rattle.lp_repr.specs.declared.values.RunItem.{RunItem}
 use Rattle.lp_repr.specs.declared.values.Outcome.{Outcome}
@@ -10,7 +10,7 @@ use Rattle.lp_machine.specs.declared.config.Config.{Config}
 use Rattle.lp_machine.specs.Tables.{Tables}
 use Rattle.lp_machine.specs.StackMachine.{with_left}
 use Rattle.lp_machine.specs.Move.{move, moves, makes}
-use Rattle.lp_machine.specs.RunEnds.{ended, option_ending}
+use Rattle.lp_machine.specs.RunEnds.{ended, TellsEnd}
 use Rattle.lp_machine.specs.MachineRun.{moves_made, made_before, Stepped}
 
 module _ (t : Tables) (items : List RunItem) where
@@ -78,10 +78,10 @@ module _ (t : Tables) (items : List RunItem) where
       (sym (ap (λ n. moves t items n c0) (sym z) ∙ same 0), sym (ap (λ n. moves_made t items n c0) (sym z) ∙ count 0 ∙ y ∙ e))
 
   -- a step from a configuration
-  pub step_stands : (o : Option Outcome) (held : Option Config) (c next : Config) (after : Option Config) → held ≡ Some c → after ≡ Some next → next ≡ move t items c → option_ending o ≡ ended next.left
+  pub step_stands : (o : Option Outcome) (held : Option Config) (c next : Config) (after : Option Config) → held ≡ Some c → after ≡ Some next → next ≡ move t items c → TellsEnd o (ended next.left)
       → Stepped o (record { tables = t; items = items; config = held }) held (record { tables = t; items = items; config = after })
   step_stands o None c next after held a n e = cc
   step_stands o (Some d) c next after held a n e =
       let same : c ≡ d = cc in
       let m : next ≡ move t items d = n ∙ ap (move t items) same in
-      (ap (λ (x : Option Config). record { tables = t; items = items; config = x }) (a ∙ ap Some m), e ∙ ap (λ (x : Config). ended x.left) m)
+      (ap (λ (x : Option Config). record { tables = t; items = items; config = x }) (a ∙ ap Some m), subst (λ (x : Config). TellsEnd o (ended x.left)) m e)

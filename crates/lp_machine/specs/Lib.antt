@@ -13,3 +13,6 @@ pub mod GrammarTables
 pub mod RunEnds
 pub mod ExpectedLaw
 pub mod RecoveryLaw
+pub mod TableAnswers
+pub mod DriverStanding
+pub mod TableLaw

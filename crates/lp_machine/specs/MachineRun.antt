@@ -24,7 +24,7 @@ use Rattle.lp_machine.specs.TablesView.{tables_of}
 use Rattle.lp_machine.specs.Moves.{first}
 use Rattle.lp_machine.specs.Move.{move, moves}
 use Rattle.lp_machine.specs.GrammarTables.{grammar_tables}
-use Rattle.lp_machine.specs.RunEnds.{ended, outcome_ending, option_ending, call_of}
+use Rattle.lp_machine.specs.RunEnds.{ended, outcome_ending, TellsEnd, call_of}
 
 -- a machine over its tables and items: without a configuration once it found no memory
 pub record Standing : Type 0 where
@@ -64,7 +64,7 @@ abbrev pub Stepped : Option Outcome → Standing → Option Config → Standing 
 Stepped o before None after = ⊥
 Stepped o before (Some c) after =
     let next = move before.tables before.items c in
-    (after ≡ record before { config = Some next }) × (option_ending o ≡ ended next.left)
+    (after ≡ record before { config = Some next }) × TellsEnd o (ended next.left)
 
 abbrev pub Steps : Result (Option Outcome) AllocError → Standing → Standing → Type 0
 Steps (Ok o) before after = Stepped o before before.config after

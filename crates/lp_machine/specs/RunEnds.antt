@@ -1,5 +1,6 @@
 -- How runs end, and the calls that events tell of.
-use Rattle.std.specs.Prelude.{List, map, Option, Some, None, Result, Ok, Err}
+use Rattle.std.specs.Prelude.{◌≡◌, List, map, Option, Some, None, Result, Ok, Err}
+use Rattle.std.specs.Option.{option_map}
 use Rattle.lp_repr.specs.declared.values.Loc.{Loc}
 use Rattle.lp_repr.specs.declared.values.Term.{Term}
 use Rattle.lp_repr.specs.declared.values.Event.{Event}
@@ -33,9 +34,9 @@ outcome_ending (outcome.Value term) = Some (Gives (value_of term))
 outcome_ending (outcome.Error failure) = Some (Fails failure)
 outcome_ending outcome.Spent = None
 
-abbrev pub option_ending : Option Outcome → Option Ending
-option_ending None = None
-option_ending (Some o) = outcome_ending o
+-- what a step answers: nothing where a move is left, and never that moves were spent
+abbrev pub TellsEnd : Option Outcome → Option Ending → Type 0
+TellsEnd answer ending = option_map outcome_ending answer ≡ option_map Some ending
 
 -- a call of user code, by the event that tells of it
 abbrev pub spanned_value : Loc × Term × Loc → Spanned Value

@@ -2,6 +2,7 @@
 
 ghost use Rattle.lp_machine.specs.ExpectedLaw.{TriedHaveActions, MovesTryNames};
 ghost use Rattle.lp_machine.specs.RecoveryLaw.{MovesRecover};
+ghost use Rattle.lp_machine.specs.DriverStanding.{TurnsMove};
 
 /// Each expected list with tried terminals is contained in the one with the terminals that have an
 /// action in the top state, both in terminal order. The machine's moves at an error give the first
@@ -15,4 +16,11 @@ pub fn expected_lists()
 /// the stack that serves: the machine's moves come to that.
 pub fn recovery()
     ensures { MovesRecover }
+{}
+
+/// The turns of a driver over a definition that answers by tables make the machine's moves, where
+/// errors are mended and where they are not: after any number of turns the machine comes to the same
+/// place, or to the same end with the same calls.
+pub fn turns()
+    ensures { TurnsMove }
 {}

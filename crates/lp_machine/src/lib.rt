@@ -3,6 +3,7 @@
 #![tactic(auto)]
 
 pub mod actions;
+pub mod by_tables;
 pub mod calls;
 pub mod compiled;
 pub mod config;
@@ -18,6 +19,7 @@ pub mod terms;
 pub mod verdict;
 mod views;
 
+pub use by_tables::TableDefinition;
 pub use machine::{Machine, MachineRun};
 
 #[cfg(test)]

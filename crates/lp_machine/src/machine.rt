@@ -5,7 +5,7 @@ ghost use Rattle.lp_driver.specs.Values.{value_of};
 ghost use Rattle.lp_machine.specs.TablesView.{tables_of};
 ghost use Rattle.lp_machine.specs.Move.{move, moves};
 ghost use Rattle.lp_machine.specs.MachineRun.{at_first, Begins, moves_made, standing_of, Steps, Runs};
-ghost use Rattle.lp_machine.specs.RunEnds.{ended, ending_of, outcome_ending, option_ending, call_of};
+ghost use Rattle.lp_machine.specs.RunEnds.{ended, ending_of, outcome_ending, TellsEnd, call_of};
 
 use crate::compiled::Compiled;
 use crate::config::{Config, Left};
@@ -47,7 +47,7 @@ fn outcome_of(ending: Result<Symbol, RunParseError>) -> Outcome
 
 // The outcome, where no move is left.
 fn outcome_in(alloc: Global, config: &Config) -> Result<Option<Outcome>, AllocError>
-    ensures { IfOk result (λ o. option_ending o ≡ ended config.now.left) }
+    ensures { IfOk result (λ o. TellsEnd o (ended config.now.left)) }
 {
     match &config.left {
         Left::Over(ending) => Ok(Some(outcome_of(copied_ending(alloc, ending)?))),
@@ -73,7 +73,7 @@ fn outcome_after(left: Left) -> Outcome
 
 // One move, where one is left, and the outcome where then none is left.
 fn stepped(input: &Input, config: Config) -> Result<(Config, Option<Outcome>), AllocError>
-    ensures { IfOk result (λ r. (r.0 ≡ move (tables_of input.now.tables) input.now.items.now config) × (option_ending r.1 ≡ ended r.0.left)) }
+    ensures { IfOk result (λ r. (r.0 ≡ move (tables_of input.now.tables) input.now.items.now config) × TellsEnd r.1 (ended r.0.left)) }
 {
     let mut next = config;
     input.advance(&mut next)?;

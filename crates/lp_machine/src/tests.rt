@@ -1,5 +1,6 @@
 //! Runs of the machine on worked examples.
 
+mod driven;
 mod examples;
 mod tables;
 
@@ -79,22 +80,40 @@ const ONE: &[(u64, &[u64], &str)] = &[
     ),
 ];
 
-#[test]
-fn a_token_is_reduced_to_the_start(rt: HostRuntime) -> Result<(), Fail> {
-    let alloc = rt.alloc();
-    let example = one_token(alloc)?;
+// Whether these items are shown so.
+fn shows(
+    alloc: Global,
+    example: &Example,
+    expecting: Expecting,
+    spans: &[Span],
+    moves: u64,
+    wanted: &str,
+) -> Result<bool, RunError> {
+    let items = tokens(alloc, spans)?;
+    let text = run(alloc, example, expecting, &items, &[], moves)?;
+    Ok(text.as_str() == wanted)
+}
+
+fn one_runs(alloc: Global, example: &Example) -> Result<bool, RunError> {
     let items = tokens(alloc, &[("Tok::A", 0, 1)])?;
     for (moves, failing, wanted) in ONE {
-        let text = run(alloc, &example, Expecting::Trial, &items, failing, *moves)?;
-        assert_eq!(rt; text.as_str(), *wanted);
+        let text = run(alloc, example, Expecting::Trial, &items, failing, *moves)?;
+        if text.as_str() != *wanted {
+            return Ok(false);
+        }
     }
-    Ok(())
+    Ok(true)
 }
 
 #[test]
-fn parameters_are_counted(rt: HostRuntime) -> Result<(), Fail> {
+fn a_token_is_reduced_to_the_start(rt: HostRuntime) -> Result<(), Fail> {
     let alloc = rt.alloc();
-    let example = one_token(alloc)?;
+    assert!(rt; one_runs(alloc, &one_token(alloc)?)?);
+    Ok(())
+}
+
+// A parameter where the grammar has none.
+fn is_counted(alloc: Global, example: &Example) -> Result<bool, RunError> {
     let one = [Text::from_str(alloc, "x")?];
     let machine = Machine::new(
         alloc,
@@ -105,15 +124,11 @@ fn parameters_are_counted(rt: HostRuntime) -> Result<(), Fail> {
         &one,
         &[],
     );
-    assert!(rt; matches!(&machine, Err(RunError::ParameterCount)));
-    Ok(())
+    Ok(matches!(&machine, Err(RunError::ParameterCount)))
 }
 
 // Each step answers nothing but the last, after which the answer stays.
-#[test]
-fn steps_come_to_the_outcome(rt: HostRuntime) -> Result<(), Fail> {
-    let alloc = rt.alloc();
-    let example = one_token(alloc)?;
+fn steps_end(alloc: Global, example: &Example) -> Result<bool, RunError> {
     let items = tokens(alloc, &[("Tok::A", 0, 1)])?;
     let mut machine = Machine::new(
         alloc,
@@ -124,12 +139,19 @@ fn steps_come_to_the_outcome(rt: HostRuntime) -> Result<(), Fail> {
         &[],
         &[],
     )?;
-    for _ in 0..4 {
-        assert!(rt; machine.step()?.is_none());
+    for made in 0..7 {
+        if machine.step()?.is_some() != (made >= 4) {
+            return Ok(false);
+        }
     }
-    for _ in 0..2 {
-        assert!(rt; machine.step()?.is_some());
-    }
+    Ok(true)
+}
+
+#[test]
+fn steps_come_to_the_outcome(rt: HostRuntime) -> Result<(), Fail> {
+    let alloc = rt.alloc();
+    assert!(rt; is_counted(alloc, &one_token(alloc)?)?);
+    assert!(rt; steps_end(alloc, &one_token(alloc)?)?);
     Ok(())
 }
 
@@ -161,17 +183,13 @@ const SUM_ERROR: &str = "call 0 \"()\" params [] args [<Tok::N>@0-1]
 call 1 \"()\" params [] args [#0@0-1]
 error UnrecognizedToken <Tok::Minus>@2-3 expected [\"N\", \"(\"]";
 
+const TWICE: &[Span] = &[("Tok::N", 0, 1), ("Tok::Minus", 1, 2), ("Tok::Minus", 2, 3)];
+
 #[test]
 fn expressions_are_reduced_in_order(rt: HostRuntime) -> Result<(), Fail> {
     let alloc = rt.alloc();
-    let example = expressions(alloc)?;
-    let items = tokens(alloc, SUM)?;
-    let text = run(alloc, &example, Expecting::Trial, &items, &[], 1000)?;
-    assert_eq!(rt; text.as_str(), SUM_CALLS);
-    let twice = [("Tok::N", 0, 1), ("Tok::Minus", 1, 2), ("Tok::Minus", 2, 3)];
-    let items = tokens(alloc, &twice)?;
-    let text = run(alloc, &example, Expecting::Trial, &items, &[], 1000)?;
-    assert_eq!(rt; text.as_str(), SUM_ERROR);
+    let rows = &[(SUM, SUM_CALLS), (TWICE, SUM_ERROR)];
+    assert!(rt; runs_as(alloc, &expressions(alloc)?, rows)?);
     Ok(())
 }
 
@@ -266,41 +284,44 @@ fn errors_are_mended(rt: HostRuntime) -> Result<(), Fail> {
     Ok(())
 }
 
+// A token, and a fault.
+fn faulty(alloc: Global) -> Result<Vec<RunItem>, AllocError> {
+    let mut items = tokens(alloc, &[("Tok::A", 0, 1)])?;
+    items.push(RunItem::Fault(Text::from_str(alloc, "e")?))?;
+    Ok(items)
+}
+
+fn fault_ends(alloc: Global, example: &Example) -> Result<bool, RunError> {
+    let items = faulty(alloc)?;
+    let text = run(alloc, example, Expecting::Trial, &items, &[], 100)?;
+    Ok(text.as_str() == "error User e")
+}
+
 #[test]
 fn a_fault_ends_a_run(rt: HostRuntime) -> Result<(), Fail> {
     let alloc = rt.alloc();
-    let mut items = tokens(alloc, &[("Tok::A", 0, 1)])?;
-    items.push(RunItem::Fault(Text::from_str(alloc, "e")?))?;
-    let text = run(
-        alloc,
-        &looks_between(alloc)?,
-        Expecting::Trial,
-        &items,
-        &[],
-        100,
-    )?;
-    assert_eq!(rt; text.as_str(), "error User e");
+    assert!(rt; fault_ends(alloc, &looks_between(alloc)?)?);
     Ok(())
 }
 
+const ENDLESS: &str =
+    "call 0 \"()\" params [] args [] at 0 0\ncall 1 \"()\" params [] args [] at 0 0\nspent";
+
+const AFTER_TRIALS: &str = "error UnrecognizedToken <Tok::C>@0-1 expected [\"a\", \"b\"]";
+
 // Reductions without end take all moves, and so does a trial without end.
+fn is_spent(alloc: Global, example: &Example) -> Result<bool, RunError> {
+    let a = &[("Tok::A", 0, 1)];
+    let c = &[("Tok::C", 0, 1)];
+    let reductions = shows(alloc, example, Expecting::Trial, a, 5, ENDLESS)?;
+    let trials = shows(alloc, example, Expecting::Trial, c, 100, "spent")?;
+    let actions = shows(alloc, example, Expecting::Actions, c, 100, AFTER_TRIALS)?;
+    Ok(reductions && trials && actions)
+}
+
 #[test]
 fn a_run_without_end_is_spent(rt: HostRuntime) -> Result<(), Fail> {
     let alloc = rt.alloc();
-    let example = endless(alloc)?;
-    let items = tokens(alloc, &[("Tok::A", 0, 1)])?;
-    let text = run(alloc, &example, Expecting::Trial, &items, &[], 5)?;
-    assert_eq!(rt;
-        text.as_str(),
-        "call 0 \"()\" params [] args [] at 0 0\ncall 1 \"()\" params [] args [] at 0 0\nspent"
-    );
-    let items = tokens(alloc, &[("Tok::C", 0, 1)])?;
-    let text = run(alloc, &example, Expecting::Trial, &items, &[], 100)?;
-    assert_eq!(rt; text.as_str(), "spent");
-    let text = run(alloc, &example, Expecting::Actions, &items, &[], 100)?;
-    assert_eq!(rt;
-        text.as_str(),
-        "error UnrecognizedToken <Tok::C>@0-1 expected [\"a\", \"b\"]"
-    );
+    assert!(rt; is_spent(alloc, &endless(alloc)?)?);
     Ok(())
 }

@@ -1,6 +1,6 @@
 //! Grammars of worked examples, with their states.
 
-use super::tables::{Example, Sign, grammar, inline, look, states, user};
+use super::tables::{Example, Row, Sign, grammar, inline, look, user, with_states};
 use lp_repr::lr1::Token;
 use lp_repr::repr::{ActionFnDefn, LookaroundActionFn};
 use std::alloc::{AllocError, Global};
@@ -50,25 +50,22 @@ fn looking(alloc: Global) -> Result<Vec<ActionFnDefn>, AllocError> {
     ]?)
 }
 
+const ONE_TOKEN_STATES: &[Row] = &[
+    (&[(0, 2)], &[(0, 1)], &[]),
+    (&[], &[], &[(EOF, 1)]),
+    (&[], &[], &[(EOF, 0)]),
+];
+
 /// S = "a"
 pub fn one_token(alloc: Global) -> Result<Example, AllocError> {
-    Ok(Example {
-        grammar: grammar(
-            alloc,
-            &[("a", "Tok::A")],
-            false,
-            &[("S", &[(A, 1)]), ("__S", &[(S, 0)])],
-            start_and(alloc, " ()", true)?,
-        )?,
-        states: states(
-            alloc,
-            &[
-                (&[(0, 2)], &[(0, 1)], &[]),
-                (&[], &[], &[(EOF, 1)]),
-                (&[], &[], &[(EOF, 0)]),
-            ],
-        )?,
-    })
+    let grammar = grammar(
+        alloc,
+        &[("a", "Tok::A")],
+        false,
+        &[("S", &[(A, 1)]), ("__S", &[(S, 0)])],
+        start_and(alloc, " ()", true)?,
+    )?;
+    with_states(alloc, grammar, ONE_TOKEN_STATES)
 }
 
 const E: &[Sign] = &[Sign::Nonterminal("E")];
@@ -89,161 +86,143 @@ const GROUP: &[Sign] = &[
     Sign::Terminal(")"),
 ];
 
+const EXPRESSIONS_STATES: &[Row] = &[
+    (&[(1, 3), (2, 4)], &[(0, 1), (1, 2), (2, 5)], &[]),
+    (&[(0, 6)], &[], &[(EOF, 2)]),
+    (&[], &[], &[(EOF, 5)]),
+    (&[], &[], &[(AFTER, 3)]),
+    (&[(1, 3), (2, 4)], &[(0, 7), (2, 5)], &[]),
+    (&[], &[], &[(AFTER, 1)]),
+    (&[(1, 3), (2, 4)], &[(2, 8)], &[]),
+    (&[(3, 9), (0, 6)], &[], &[]),
+    (&[], &[], &[(AFTER, 0)]),
+    (&[], &[], &[(AFTER, 4)]),
+];
+
 /// S = E, E = { E "-" T, T }, T = { "N", "(" E ")" }
 pub fn expressions(alloc: Global) -> Result<Example, AllocError> {
-    Ok(Example {
-        grammar: grammar(
-            alloc,
-            &[
-                ("-", "Tok::Minus"),
-                ("N", "Tok::N"),
-                ("(", "Tok::L"),
-                (")", "Tok::R"),
-            ],
-            false,
-            &[
-                ("E", &[(DIFFERENCE, 1), (T, 1)]),
-                ("S", &[(E, 1)]),
-                ("T", &[(NUMBER, 1), (GROUP, 1)]),
-                ("__S", &[(S, 0)]),
-            ],
-            start_and(alloc, "", false)?,
-        )?,
-        states: states(
-            alloc,
-            &[
-                (&[(1, 3), (2, 4)], &[(0, 1), (1, 2), (2, 5)], &[]),
-                (&[(0, 6)], &[], &[(EOF, 2)]),
-                (&[], &[], &[(EOF, 5)]),
-                (&[], &[], &[(AFTER, 3)]),
-                (&[(1, 3), (2, 4)], &[(0, 7), (2, 5)], &[]),
-                (&[], &[], &[(AFTER, 1)]),
-                (&[(1, 3), (2, 4)], &[(2, 8)], &[]),
-                (&[(3, 9), (0, 6)], &[], &[]),
-                (&[], &[], &[(AFTER, 0)]),
-                (&[], &[], &[(AFTER, 4)]),
-            ],
-        )?,
-    })
+    let grammar = grammar(
+        alloc,
+        &[
+            ("-", "Tok::Minus"),
+            ("N", "Tok::N"),
+            ("(", "Tok::L"),
+            (")", "Tok::R"),
+        ],
+        false,
+        &[
+            ("E", &[(DIFFERENCE, 1), (T, 1)]),
+            ("S", &[(E, 1)]),
+            ("T", &[(NUMBER, 1), (GROUP, 1)]),
+            ("__S", &[(S, 0)]),
+        ],
+        start_and(alloc, "", false)?,
+    )?;
+    with_states(alloc, grammar, EXPRESSIONS_STATES)
 }
+
+const LOOKS_BETWEEN_STATES: &[Row] = &[
+    (&[(0, 2)], &[(0, 1)], &[]),
+    (&[], &[], &[(EOF, 1)]),
+    (&[(1, 3)], &[], &[]),
+    (&[], &[], &[(EOF, 0)]),
+];
 
 /// S = "a" @L @R "b"
 pub fn looks_between(alloc: Global) -> Result<Example, AllocError> {
     let mut actions = looking(alloc)?;
     actions.push(inline(alloc, 3, &[Ok("a"), Err(1), Err(2), Ok("b")])?)?;
-    Ok(Example {
-        grammar: grammar(
-            alloc,
-            TWO,
-            false,
-            &[("S", &[(AB, 4)]), ("__S", &[(S, 0)])],
-            actions,
-        )?,
-        states: states(
-            alloc,
-            &[
-                (&[(0, 2)], &[(0, 1)], &[]),
-                (&[], &[], &[(EOF, 1)]),
-                (&[(1, 3)], &[], &[]),
-                (&[], &[], &[(EOF, 0)]),
-            ],
-        )?,
-    })
+    let grammar = grammar(
+        alloc,
+        TWO,
+        false,
+        &[("S", &[(AB, 4)]), ("__S", &[(S, 0)])],
+        actions,
+    )?;
+    with_states(alloc, grammar, LOOKS_BETWEEN_STATES)
 }
+
+const LOOKS_AT_ENDS_STATES: &[Row] = &[
+    (&[(0, 3), (1, 2)], &[(0, 1)], &[]),
+    (&[], &[], &[(EOF, 2)]),
+    (&[], &[], &[(EOF, 0)]),
+    (&[], &[], &[(EOF, 1)]),
+];
 
 /// S = { @L "b", "a" @R }
 pub fn looks_at_ends(alloc: Global) -> Result<Example, AllocError> {
     let mut actions = looking(alloc)?;
     actions.push(inline(alloc, 3, &[Err(1), Ok("b")])?)?;
     actions.push(inline(alloc, 3, &[Ok("a"), Err(2)])?)?;
-    Ok(Example {
-        grammar: grammar(
-            alloc,
-            TWO,
-            false,
-            &[("S", &[(B, 4), (A, 5)]), ("__S", &[(S, 0)])],
-            actions,
-        )?,
-        states: states(
-            alloc,
-            &[
-                (&[(0, 3), (1, 2)], &[(0, 1)], &[]),
-                (&[], &[], &[(EOF, 2)]),
-                (&[], &[], &[(EOF, 0)]),
-                (&[], &[], &[(EOF, 1)]),
-            ],
-        )?,
-    })
+    let grammar = grammar(
+        alloc,
+        TWO,
+        false,
+        &[("S", &[(B, 4), (A, 5)]), ("__S", &[(S, 0)])],
+        actions,
+    )?;
+    with_states(alloc, grammar, LOOKS_AT_ENDS_STATES)
 }
+
+const EMPTY_BEFORE_STATES: &[Row] = &[
+    (&[], &[(0, 1), (1, 2)], &[(ON_A, 1)]),
+    (&[], &[], &[(EOF, 2)]),
+    (&[(0, 3)], &[], &[]),
+    (&[], &[], &[(EOF, 0)]),
+];
 
 /// S = X "a", X = ()
 pub fn empty_before(alloc: Global) -> Result<Example, AllocError> {
-    Ok(Example {
-        grammar: grammar(
-            alloc,
-            TWO,
-            false,
-            &[("S", &[(XA, 1)]), ("X", &[(&[], 1)]), ("__S", &[(S, 0)])],
-            start_and(alloc, "", false)?,
-        )?,
-        states: states(
-            alloc,
-            &[
-                (&[], &[(0, 1), (1, 2)], &[(ON_A, 1)]),
-                (&[], &[], &[(EOF, 2)]),
-                (&[(0, 3)], &[], &[]),
-                (&[], &[], &[(EOF, 0)]),
-            ],
-        )?,
-    })
+    let grammar = grammar(
+        alloc,
+        TWO,
+        false,
+        &[("S", &[(XA, 1)]), ("X", &[(&[], 1)]), ("__S", &[(S, 0)])],
+        start_and(alloc, "", false)?,
+    )?;
+    with_states(alloc, grammar, EMPTY_BEFORE_STATES)
 }
+
+const MENDING_STATES: &[Row] = &[
+    (&[(0, 2), (2, 3)], &[(0, 1)], &[]),
+    (&[], &[], &[(EOF, 2)]),
+    (&[], &[], &[(EOF, 0)]),
+    (&[], &[], &[(EOF, 1)]),
+];
 
 /// S = { "a", ! }
 pub fn mending(alloc: Global) -> Result<Example, AllocError> {
-    Ok(Example {
-        grammar: grammar(
-            alloc,
-            TWO,
-            true,
-            &[("S", &[(A, 1), (ERROR, 1)]), ("__S", &[(S, 0)])],
-            start_and(alloc, "", false)?,
-        )?,
-        states: states(
-            alloc,
-            &[
-                (&[(0, 2), (2, 3)], &[(0, 1)], &[]),
-                (&[], &[], &[(EOF, 2)]),
-                (&[], &[], &[(EOF, 0)]),
-                (&[], &[], &[(EOF, 1)]),
-            ],
-        )?,
-    })
+    let grammar = grammar(
+        alloc,
+        TWO,
+        true,
+        &[("S", &[(A, 1), (ERROR, 1)]), ("__S", &[(S, 0)])],
+        start_and(alloc, "", false)?,
+    )?;
+    with_states(alloc, grammar, MENDING_STATES)
 }
+
+const ENDLESS_STATES: &[Row] = &[
+    (&[(1, 3)], &[(0, 1), (1, 2)], &[(ON_A, 2)]),
+    (&[], &[], &[(EOF, 3)]),
+    (&[(1, 3)], &[(0, 4), (1, 2)], &[(ON_A, 2)]),
+    (&[], &[], &[(A_OR_EOF, 1)]),
+    (&[(0, 5)], &[], &[]),
+    (&[], &[], &[(A_OR_EOF, 0)]),
+];
 
 /// S = { X S "a", "b" }, X = (), with X reduced on "a" too
 pub fn endless(alloc: Global) -> Result<Example, AllocError> {
-    Ok(Example {
-        grammar: grammar(
-            alloc,
-            THREE,
-            false,
-            &[
-                ("S", &[(XSA, 1), (B, 1)]),
-                ("X", &[(&[], 1)]),
-                ("__S", &[(S, 0)]),
-            ],
-            start_and(alloc, "", false)?,
-        )?,
-        states: states(
-            alloc,
-            &[
-                (&[(1, 3)], &[(0, 1), (1, 2)], &[(ON_A, 2)]),
-                (&[], &[], &[(EOF, 3)]),
-                (&[(1, 3)], &[(0, 4), (1, 2)], &[(ON_A, 2)]),
-                (&[], &[], &[(A_OR_EOF, 1)]),
-                (&[(0, 5)], &[], &[]),
-                (&[], &[], &[(A_OR_EOF, 0)]),
-            ],
-        )?,
-    })
+    let grammar = grammar(
+        alloc,
+        THREE,
+        false,
+        &[
+            ("S", &[(XSA, 1), (B, 1)]),
+            ("X", &[(&[], 1)]),
+            ("__S", &[(S, 0)]),
+        ],
+        start_and(alloc, "", false)?,
+    )?;
+    with_states(alloc, grammar, ENDLESS_STATES)
 }

@@ -30,7 +30,7 @@ pub enum Sign {
 type Rules = (&'static str, &'static [(&'static [Sign], usize)]);
 
 /// A state: its shifts and its gotos, by number, and its reductions, each on these tokens.
-type Row = (
+pub type Row = (
     &'static [(usize, usize)],
     &'static [(usize, usize)],
     &'static [(&'static [Token], usize)],
@@ -264,11 +264,17 @@ fn state(alloc: Global, row: Row) -> Result<Lr1State, AllocError> {
     })
 }
 
-/// The states of these rows, without their items.
-pub fn states(alloc: Global, rows: &[Row]) -> Result<Vec<Lr1State>, AllocError> {
+// The states of these rows, without their items.
+fn states(alloc: Global, rows: &[Row]) -> Result<Vec<Lr1State>, AllocError> {
     let mut states = Vec::new(alloc);
     for row in rows {
         states.push(state(alloc, *row)?)?;
     }
     Ok(states)
+}
+
+/// A grammar with the states of these rows.
+pub fn with_states(alloc: Global, grammar: Grammar, rows: &[Row]) -> Result<Example, AllocError> {
+    let states = states(alloc, rows)?;
+    Ok(Example { grammar, states })
 }
