@@ -209,13 +209,6 @@ impl<'g> TableDefinition<'g> {
         }
     }
 
-    /// The calls of user code that it made.
-    pub fn into_calls(self) -> Items<Call>
-        ensures { result ≡ self.entry.calls }
-    {
-        self.calls
-    }
-
     // Makes a step.
     fn spend(&mut self) -> Result<(), Stop>
         ensures { MatchResult result (λ _. (self.old.left ≡ suc self.new.left) × (self.new ≡ with_steps self.old self.new.left)) (λ e. (e ≡ Spent) × (self.old.left ≡ 0) × (self.new ≡ self.old)) }

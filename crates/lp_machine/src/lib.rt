@@ -21,6 +21,3 @@ mod views;
 
 pub use by_tables::TableDefinition;
 pub use machine::{Machine, MachineRun};
-
-#[cfg(test)]
-mod tests;
