@@ -65,8 +65,8 @@ fn check_ascent(alloc: Global, grammar: &Grammar) -> Result<(), EmitError>
 }
 
 fn check_names(alloc: Global, grammar: &Grammar) -> Result<(), EmitError>
-    requires { IsSound grammar.now }
-    requires { IsByAscent grammar.now }
+    requires sound { IsSound grammar.now }
+    requires by_ascent { IsByAscent grammar.now }
     ensures { MatchResult result (λ _. grammar.now.uses_error_recovery ≡ false) (RefusesAlways grammar.now) }
 {
     if grammar.uses_error_recovery {
@@ -81,8 +81,8 @@ fn check_names(alloc: Global, grammar: &Grammar) -> Result<(), EmitError>
 
 /// The counts fit the greatest integer type of states.
 fn check_counts(grammar: &Grammar, states: &[StartStates]) -> Result<(), EmitError>
-    requires { IsSound grammar.now }
-    requires { RecoversByTables grammar.now }
+    requires sound { IsSound grammar.now }
+    requires recovers { RecoversByTables grammar.now }
     ensures { MatchResult result (λ _. PassesStated grammar.now states.now) (Refuses grammar.now states.now) }
 {
     let count = greatest_count(production_count(grammar), states);
