@@ -1,5 +1,3 @@
-pub mod ClearTypes
-pub mod Walks
 pub mod ErrorTerminal
 pub mod FirstFailing
 pub mod LeastFailure
@@ -7,5 +5,4 @@ pub mod Lookups
 pub mod NewThings
 pub mod Pieces
 pub mod Sides
-pub mod SymbolSets
 pub mod Words

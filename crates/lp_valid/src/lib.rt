@@ -2,8 +2,6 @@
 #![tactic(auto)]
 
 mod actions;
-mod apart;
-mod circles;
 mod declared;
 mod grammars;
 mod item_sets;
