@@ -1,16 +1,19 @@
 -- The least failing rule.
-use Rattle.std.proofs.Common.{◌≡◌, ℕ, ◌<◌, ◌≤◌, ◌+◌, arith, None, Result, Ok, Err, MatchResult, ⊎_elim}
+use Rattle.std.proofs.Common.{◌≡◌, ℕ, ◌≤◌, ◌+◌, arith, None, Result, Ok, Err, MatchResult, ⊎_elim}
 use Rattle.std.proofs.lemmas.Bool.{cases_lt}
 use Rattle.lp_repr.specs.declared.repr.Grammar.{Grammar}
 use Rattle.lp_valid.specs.Places.{IsFirstFailing}
-use Rattle.lp_valid.specs.ValidGrammar.{GrammarRule, starts, names, types, counts, fallibles, error_terminal, distinct_terminals, number, Says, HoldsBelow, IsValidGrammar}
+use Rattle.lp_valid.specs.ValidGrammar.{GrammarRule, starts, names, prefixes, symbols, types, counts, inlines, fallibles, error_terminal, distinct_terminals, number, Says, HoldsBelow, IsValidGrammar}
 
 -- the numbers of rules
 pub upto_ten : (rule : GrammarRule) → number rule ≤ 10
 upto_ten starts = omega arith
 upto_ten names = omega arith
+upto_ten prefixes = omega arith
+upto_ten symbols = omega arith
 upto_ten types = omega arith
 upto_ten counts = omega arith
+upto_ten inlines = omega arith
 upto_ten fallibles = omega arith
 upto_ten error_terminal = omega arith
 upto_ten distinct_terminals = omega arith

@@ -1,3 +1,5 @@
+pub mod ClearTypes
+pub mod Walks
 pub mod ErrorTerminal
 pub mod FirstFailing
 pub mod LeastFailure
@@ -5,4 +7,5 @@ pub mod Lookups
 pub mod NewThings
 pub mod Pieces
 pub mod Sides
+pub mod SymbolSets
 pub mod Words

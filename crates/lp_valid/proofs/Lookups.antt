@@ -1,5 +1,5 @@
 -- Names that compare equal are the same.
-use Rattle.std.proofs.Common.{◌≡◌, ℕ, Bool, true, false, cond, ◌||◌, List, [], ◌∷◌, Option, Some, None, refl, ap, sym, ◌∙◌}
+use Rattle.std.proofs.Common.{◌≡◌, Bool, ◌||◌, List, [], ◌∷◌, map, refl, ap, sym}
 use Rattle.std.specs.List.{list_any}
 use Rattle.std.specs.Map.{lookup}
 use Rattle.std.specs.Ordering.{is_eq}
@@ -18,6 +18,11 @@ lookup_agree p q h (e ∷ es) = rw (h e.0, lookup_agree p q h es) refl
 pub any_agree : {X : Type 0} (p q : X → Bool) → ((x : X) → p x ≡ q x) → (xs : List X) → list_any p xs ≡ list_any q xs
 any_agree p q h [] = refl
 any_agree p q h (x ∷ xs) = rw (h x, any_agree p q h xs) refl
+
+-- some image passes
+pub any_of_images : {X Y : Type 0} (f : X → Y) (p : Y → Bool) (xs : List X) → list_any (λ x. p (f x)) xs ≡ list_any p (map f xs)
+any_of_images f p [] = refl
+any_of_images f p (x ∷ xs) = ap (λ b. p (f x) || b) (any_of_images f p xs)
 
 -- terminals that compare equal are the same
 pub terminal_ties : (s t : TerminalString) → is_eq ((order.cmp-value).it s t) ≡ same_terminal s t

@@ -1,15 +1,13 @@
 -- Things that no earlier one is equal to.
-use Rattle.std.proofs.Common.{◌≡◌, ℕ, ◌+◌, ◌<◌, ◌≤◌, zero, suc, Bool, true, false, not, cond, ◌||◌, List, [], ◌∷◌, length, take, refl, arith, add-one, sym, ap, ◌∙◌, subst, Option, Some, None, IfSome, IfOk, Result, Ok, Err, slice_get}
+use Rattle.std.proofs.Common.{◌≡◌, ℕ, ◌+◌, ◌≤◌, zero, suc, Bool, true, false, not, cond, ◌||◌, List, [], ◌∷◌, length, map, take, refl, add-one, sym, ap, ◌∙◌, subst, Option, Some, None, IfSome, IfOk, Result, Ok, Err, slice_get}
 use Rattle.std.specs.List.{list_any}
 use Rattle.std.specs.Ordering.{is_eq}
 use Rattle.std.specs.declared.cmp.Ordering.{Ordering}
-use Rattle.std.proofs.lemmas.Option.{slice_get_past}
-use Rattle.lp_repr.specs.Names.{same_terminal}
-use Rattle.lp_repr.specs.contracts.repr.TerminalStringOrd.TheImpl as order
-use Rattle.lp_repr.specs.declared.repr.TerminalString.{TerminalString}
-use Rattle.lp_valid.specs.Places.{IsNew, IsFirstFailing}
-use Rattle.lp_valid.specs.TerminalRules.{IsNewTerminal}
-use Rattle.lp_valid.proofs.Lookups.{any_agree, terminal_ties}
+use Rattle.std.specs.Option.{option_map}
+use Rattle.std.proofs.lemmas.List.{take-map}
+use Rattle.std.proofs.lemmas.Option.{slice_get_past, slice_get-map}
+use Rattle.lp_valid.specs.Places.{IsNew, IsNewBy, IsFirstFailing}
+use Rattle.lp_valid.proofs.Lookups.{any_agree, any_of_images}
 
 or_false : (b c : Bool) → (b || (c || false)) ≡ (b || c)
 or_false b true = refl
@@ -43,8 +41,8 @@ is_new cmp xs k x e h = subst (λ o. IfSome o (λ z. list_any (λ y. is_eq (cmp 
 pub not_new : {X : Type 0} (cmp : X → X → Ordering) (xs : List X) (k : ℕ) (x : X) → slice_get xs k ≡ Some x → list_any (λ y. is_eq (cmp y x)) (take k xs) ≡ true → ¬ IsNew cmp xs k
 not_new cmp xs k x e h = λ is. let no_way : true ≡ false = sym h ∙ subst (λ o. IfSome o (λ z. list_any (λ y. is_eq (cmp y z)) (take k xs) ≡ false)) e is in cc
 
-pub new_past : {X : Type 0} (cmp : X → X → Ordering) (xs : List X) (k : ℕ) → length xs ≤ k → IsNew cmp xs k
-new_past cmp xs k h = subst (λ o. IfSome o (λ z. list_any (λ y. is_eq (cmp y z)) (take k xs) ≡ false)) (sym (slice_get_past xs k h)) tt
+pub new_past : {X : Type 0} (same : X → X → Bool) (xs : List X) (k : ℕ) → length xs ≤ k → IsNewBy same xs k
+new_past same xs k h = subst (λ o. IfSome o (λ z. list_any (λ y. same y z) (take k xs) ≡ false)) (sym (slice_get_past xs k h)) tt
 
 -- what a set with one more key has
 pub one_more : (c a b : Bool) → c ≡ cond a true b → c ≡ (b || a)
@@ -58,20 +56,37 @@ pub alike : (P Q : ℕ → Type 0) → ((k : ℕ) → P k → Q k) → ((k : ℕ
 alike P Q to back None h = λ k. to k (h k)
 alike P Q to back (Some k) h = (λ q. h.0 (back k q), λ j less. to j (h.1 j less))
 
-to_terminal : (ts : List TerminalString) (k : ℕ) → IsNew (order.cmp-value).it ts k → IsNewTerminal ts k
-to_terminal ts k =
-    elim (slice_get ts k) as (λ o. IfSome o (λ x. list_any (λ y. is_eq ((order.cmp-value).it y x)) (take k ts) ≡ false) → IfSome o (λ x. list_any (λ s. same_terminal s x) (take k ts) ≡ false)) [
+-- sameness that agrees
+new_alike : {X : Type 0} (p q : X → X → Bool) → ((y x : X) → p y x ≡ q y x) → (xs : List X) (k : ℕ) → IsNewBy p xs k → IsNewBy q xs k
+new_alike p q e xs k =
+    elim (slice_get xs k) as (λ o. IfSome o (λ x. list_any (λ y. p y x) (take k xs) ≡ false) → IfSome o (λ x. list_any (λ y. q y x) (take k xs) ≡ false)) [
       | None ↦ λ h. h
-      | Some x ↦ λ h. sym (any_agree (λ s. is_eq ((order.cmp-value).it s x)) (λ s. same_terminal s x) (λ s. terminal_ties s x) (take k ts)) ∙ h
+      | Some x ↦ λ h. sym (any_agree (λ y. p y x) (λ y. q y x) (λ y. e y x) (take k xs)) ∙ h
     ]
 
-from_terminal : (ts : List TerminalString) (k : ℕ) → IsNewTerminal ts k → IsNew (order.cmp-value).it ts k
-from_terminal ts k =
-    elim (slice_get ts k) as (λ o. IfSome o (λ x. list_any (λ s. same_terminal s x) (take k ts) ≡ false) → IfSome o (λ x. list_any (λ y. is_eq ((order.cmp-value).it y x)) (take k ts) ≡ false)) [
-      | None ↦ λ h. h
-      | Some x ↦ λ h. any_agree (λ s. is_eq ((order.cmp-value).it s x)) (λ s. same_terminal s x) (λ s. terminal_ties s x) (take k ts) ∙ h
-    ]
+pub first_alike : {X E : Type 0} (p q : X → X → Bool) → ((y x : X) → p y x ≡ q y x) → (xs : List X) (r : Result (Option ℕ) E) → IfOk r (IsFirstFailing (IsNewBy p xs)) → IfOk r (IsFirstFailing (IsNewBy q xs))
+first_alike p q e xs (Ok o) h = alike (IsNewBy p xs) (IsNewBy q xs) (new_alike p q e xs) (new_alike q p (λ y x. sym (e y x)) xs) o h
+first_alike p q e xs (Err x) h = tt
 
-pub new_terminals : {E : Type 0} (ts : List TerminalString) (r : Result (Option ℕ) E) → IfOk r (IsFirstFailing (IsNew (order.cmp-value).it ts)) → IfOk r (IsFirstFailing (IsNewTerminal ts))
-new_terminals ts (Ok o) h = alike (IsNew (order.cmp-value).it ts) (IsNewTerminal ts) (to_terminal ts) (from_terminal ts) o h
-new_terminals ts (Err e) h = tt
+-- sameness of images
+to_image : {X Y : Type 0} (f : X → Y) (p : Y → Y → Bool) (xs : List X) (k : ℕ) → IsNewBy (λ y x. p (f y) (f x)) xs k → IsNewBy p (map f xs) k
+to_image f p xs k =
+    rw (slice_get-map f xs k, take-map f k xs) (elim (slice_get xs k) as (λ o. IfSome o (λ x. list_any (λ y. p (f y) (f x)) (take k xs) ≡ false) → IfSome (option_map f o) (λ x. list_any (λ y. p y x) (map f (take k xs)) ≡ false)) [
+      | None ↦ λ h. h
+      | Some x ↦ λ h. sym (any_of_images f (λ y. p y (f x)) (take k xs)) ∙ h
+    ])
+
+from_image : {X Y : Type 0} (f : X → Y) (p : Y → Y → Bool) (xs : List X) (k : ℕ) → IsNewBy p (map f xs) k → IsNewBy (λ y x. p (f y) (f x)) xs k
+from_image f p xs k =
+    rw (slice_get-map f xs k, take-map f k xs) (elim (slice_get xs k) as (λ o. IfSome (option_map f o) (λ x. list_any (λ y. p y x) (map f (take k xs)) ≡ false) → IfSome o (λ x. list_any (λ y. p (f y) (f x)) (take k xs) ≡ false)) [
+      | None ↦ λ h. h
+      | Some x ↦ λ h. any_of_images f (λ y. p y (f x)) (take k xs) ∙ h
+    ])
+
+pub first_of_image : {X Y E : Type 0} (f : X → Y) (p : Y → Y → Bool) (xs : List X) (r : Result (Option ℕ) E) → IfOk r (IsFirstFailing (IsNewBy (λ y x. p (f y) (f x)) xs)) → IfOk r (IsFirstFailing (IsNewBy p (map f xs)))
+first_of_image f p xs (Ok o) h = alike (IsNewBy (λ y x. p (f y) (f x)) xs) (IsNewBy p (map f xs)) (to_image f p xs) (from_image f p xs) o h
+first_of_image f p xs (Err x) h = tt
+
+pub first_in_image : {X Y E : Type 0} (f : X → Y) (p : Y → Y → Bool) (xs : List X) (r : Result (Option ℕ) E) → IfOk r (IsFirstFailing (IsNewBy p (map f xs))) → IfOk r (IsFirstFailing (IsNewBy (λ y x. p (f y) (f x)) xs))
+first_in_image f p xs (Ok o) h = alike (IsNewBy p (map f xs)) (IsNewBy (λ y x. p (f y) (f x)) xs) (from_image f p xs) (to_image f p xs) o h
+first_in_image f p xs (Err x) h = tt

@@ -2,7 +2,6 @@
 use Rattle.std.proofs.Common.{◌≡◌, ℕ, ◌≤◌, Bool, true, false, not, cond, ◌&&◌, ◌||◌, List, [], ◌∷◌, map, length, refl, arith, sym, ap, ◌∙◌, Option}
 use Rattle.std.specs.List.{list_any}
 use Rattle.std.specs.Ordering.{nat_cmp, is_eq}
-use Rattle.std.specs.BTreeSet.{BTreeSet}
 use Rattle.std.specs.Cmp.Lexicographic.{slice_cmp, texts_ties}
 use Rattle.lp_repr.specs.Names.{same_nonterminal}
 use Rattle.lp_repr.specs.Numbering.{productions_of}
@@ -12,6 +11,7 @@ use Rattle.lp_repr.specs.declared.repr.Production.{Production}
 use Rattle.lp_valid.specs.Places.{EachPasses, IsFirstFailing}
 use Rattle.lp_valid.specs.StartRules.{is_single, is_start, is_start_unless, is_declared, has_one_symbol, stands_right, stands_in}
 use Rattle.lp_valid.proofs.FirstFailing.{failing_alike}
+use Rattle.lp_valid.proofs.Lookups.{any_of_images}
 
 pub no_single : (ps : List Production) → 2 ≤ length ps → false ≡ is_single ps
 no_single [] h = refl
@@ -31,10 +31,6 @@ one_more_name m n c b e = e ∙ (turned (is_eq (slice_cmp nat_cmp m.0 n.0)) b �
     turned true false = refl
     turned false true = refl
     turned false false = refl
-
-any_of_images : {X Y : Type 0} (f : X → Y) (p : Y → Bool) (xs : List X) → list_any (λ x. p (f x)) xs ≡ list_any p (map f xs)
-any_of_images f p [] = refl
-any_of_images f p (x ∷ xs) = ap (λ b. p (f x) || b) (any_of_images f p xs)
 
 -- the same, of what the elements point to
 pub right_from_images : {X : Type 0} (f : X → Production) (g : Grammar) (xs : List X) (n : NonterminalString) → map f xs ≡ productions_of g → list_any (λ x. stands_in n (f x).symbols) xs ≡ stands_right g n

@@ -1,8 +1,14 @@
 pub mod ActionRules
+pub mod InlineRules
 pub mod Members
 pub mod NameRules
 pub mod Places
+pub mod PrefixParts
+pub mod PrefixRules
+pub mod ProductionKeys
 pub mod Refusals
 pub mod StartRules
+pub mod SymbolRules
 pub mod TerminalRules
 pub mod ValidGrammar
+pub mod Walk

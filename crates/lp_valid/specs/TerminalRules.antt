@@ -1,6 +1,5 @@
--- What a valid grammar says of its terminals: their types and patterns, the error terminal, and that none stands twice.
-use Rattle.std.specs.Prelude.{◌≡◌, ℕ, ◌+◌, ◌-◌, ◌==◌, Bool, true, false, not, ◌&&◌, ◌||◌, List, length, take, Option, IfSome, IsTrue, slice_get, is_some, nat_lt}
-use Rattle.std.specs.List.{list_any}
+-- What a valid grammar says of its terminals: their types and patterns, and the error terminal.
+use Rattle.std.specs.Prelude.{◌≡◌, ℕ, ◌+◌, ◌-◌, ◌==◌, Bool, true, false, ◌&&◌, ◌||◌, List, length, IfSome, IsTrue, slice_get, is_some, nat_lt}
 use Rattle.std.specs.Map.{lookup}
 use Rattle.std.specs.Option.{option_map_or}
 use Rattle.lp_repr.specs.Names.{same_nonterminal, same_terminal}
@@ -36,7 +35,3 @@ ErrorIsLast terminals place = IfSome (slice_get terminals place) (λ t. IsTrue (
 -- the last terminal is the error terminal exactly where this is so
 abbrev pub EndsInError : List TerminalString → Bool → Type 0
 EndsInError terminals used = option_map_or is_error (slice_get terminals (length terminals - 1)) false ≡ used
-
--- no terminal before it is the same
-abbrev pub IsNewTerminal : List TerminalString → ℕ → Type 0
-IsNewTerminal terminals place = IfSome (slice_get terminals place) (λ t. list_any (λ s. same_terminal s t) (take place terminals) ≡ false)

@@ -1,12 +1,10 @@
-//! The actions of a grammar: how many symbols they take, whether they reach themselves, and
-//! whether they can fail.
+//! The actions of a grammar: how many symbols they take, and whether they can fail.
 
-ghost use Rattle.std.specs.Prelude.{◌≡◌, ◌+◌, ◌==◌, not, length, position, sum_by, count_by, vec_len, OnOk, ◌||◌};
+ghost use Rattle.std.specs.Prelude.{◌≡◌, ◌==◌, not, length, position, sum_by, ◌||◌};
 ghost use Rattle.std.specs.List.{list_any, list_all};
 ghost use Rattle.lp_valid.specs.ActionRules.{symbol_count, kind_takes, takes, part_takes, kind_has_counts, is_fallible, part_is_fallible, kind_may_fail};
 
 use lp_repr::repr::{ActionFnDefn, ActionFnDefnKind, InlinedSymbol, Production};
-use std::alloc::{AllocError, Global};
 
 /// The first production with another count of symbols than its action takes.
 pub(crate) fn failing_production_count(
@@ -162,111 +160,4 @@ fn part_is_fallible(actions: &[ActionFnDefn], symbol: &InlinedSymbol) -> bool
         InlinedSymbol::Original(_) => false,
         InlinedSymbol::Inlined(action, _) => is_fallible(actions, *action),
     }
-}
-
-/// The first inline that has no symbol or reaches itself.
-pub(crate) fn failing_circle(
-    alloc: Global,
-    actions: &[ActionFnDefn],
-) -> Result<Option<usize>, AllocError> {
-    let downward = actions
-        .iter()
-        .enumerate()
-        .all(|(i, a)| reaches_only_below(a, i));
-    for (place, action) in actions.iter().enumerate() {
-        if is_empty_inline(action) || (!downward && reaches_itself(alloc, actions, place)?) {
-            return Ok(Some(place));
-        }
-    }
-    Ok(None)
-}
-
-fn is_empty_inline(action: &ActionFnDefn) -> bool {
-    match &action.kind {
-        ActionFnDefnKind::Inline { symbols, .. } => symbols.as_slice().is_empty(),
-        _ => false,
-    }
-}
-
-/// Whether the outer action and the parts all have lower numbers, as in a lowered grammar. Where
-/// all actions do, none reaches itself.
-fn reaches_only_below(action: &ActionFnDefn, number: usize) -> bool {
-    match &action.kind {
-        ActionFnDefnKind::Inline { action, symbols } => {
-            *action < number && symbols.as_slice().iter().all(|s| part_is_below(s, number))
-        }
-        _ => true,
-    }
-}
-
-fn part_is_below(symbol: &InlinedSymbol, number: usize) -> bool {
-    match symbol {
-        InlinedSymbol::Original(_) => true,
-        InlinedSymbol::Inlined(action, _) => *action < number,
-    }
-}
-
-/// Actions that were reached, and those of them whose own parts are still to be looked at.
-#[derive(Drop)]
-struct Reached {
-    reached: Vec<bool>,
-    work: Vec<usize>,
-}
-
-impl Reached {
-    fn reach(&mut self, action: usize) -> Result<(), AllocError>
-        ensures { OnOk result (count_by not self.new.reached.items + vec_len self.new.work
-            ≡ count_by not self.old.reached.items + vec_len self.old.work) }
-    {
-        if action < self.reached.len() && !self.reached[action] {
-            self.reached[action] = true;
-            self.work.push(action)?;
-        }
-        Ok(())
-    }
-
-    /// Reaches the outer action and the parts.
-    fn reach_from(&mut self, action: &ActionFnDefn) -> Result<(), AllocError>
-        ensures { OnOk result (count_by not self.new.reached.items + vec_len self.new.work
-            ≡ count_by not self.old.reached.items + vec_len self.old.work) }
-    {
-        if let ActionFnDefnKind::Inline { action, symbols } = &action.kind {
-            self.reach(*action)?;
-            self.reach_parts(symbols.as_slice())?;
-        }
-        Ok(())
-    }
-
-    fn reach_parts(&mut self, symbols: &[InlinedSymbol]) -> Result<(), AllocError>
-        ensures { OnOk result (count_by not self.new.reached.items + vec_len self.new.work
-            ≡ count_by not self.old.reached.items + vec_len self.old.work) }
-    {
-        for symbol in symbols {
-            if let InlinedSymbol::Inlined(action, _) = symbol {
-                self.reach(*action)?;
-            }
-        }
-        Ok(())
-    }
-}
-
-/// Whether the action of this number reaches itself through outer actions and parts.
-fn reaches_itself(
-    alloc: Global,
-    actions: &[ActionFnDefn],
-    number: usize,
-) -> Result<bool, AllocError> {
-    let mut state = Reached {
-        reached: vec![in alloc; false; actions.len()]?,
-        work: Vec::new(alloc),
-    };
-    if let Some(action) = actions.get(number) {
-        state.reach_from(action)?;
-    }
-    while let Some(reached) = state.work.pop() {
-        if let Some(action) = actions.get(reached) {
-            state.reach_from(action)?;
-        }
-    }
-    Ok(state.reached.get(number) == Some(&true))
 }

@@ -4,14 +4,15 @@ ghost use Rattle.std.specs.Prelude.{◌≡◌, ◌+◌, ◌≤◌, map, IfOk, Ma
 ghost use Rattle.std.specs.Map.Iter.{deref};
 ghost use Rattle.std.specs.Option.{option_map};
 ghost use Rattle.lp_repr.specs.Numbering.{productions_of};
-ghost use Rattle.lp_valid.specs.Places.{IsFirstFailing};
+ghost use Rattle.lp_valid.specs.Places.{IsFirstFailing, then_place};
 ghost use Rattle.lp_valid.specs.Refusals.{RefusesGrammar};
-ghost use Rattle.lp_valid.specs.ValidGrammar.{GrammarRule, number, HoldsBelow, names, types, counts, fallibles, error_terminal, distinct_terminals, ActionsAreNamed, ParametersAreNamed, Says, IsValidGrammar};
+ghost use Rattle.lp_valid.specs.ValidGrammar.{GrammarRule, number, HoldsBelow, names, symbols, types, counts, inlines, fallibles, error_terminal, distinct_terminals, ActionsAreNamed, ParametersAreNamed, Says, IsValidGrammar};
 
-use crate::declared::Declared;
+use crate::apart::failing_prefix;
+use crate::circles::failing_inline;
 use crate::repeats::failing_repeat;
 use crate::starts::failing_start;
-use crate::{actions, spelling, terminals};
+use crate::{actions, declared, spelling, terminals};
 use lp_repr::numbering::productions;
 use lp_repr::repr::{Grammar, Production};
 use std::alloc::{AllocError, Global};
@@ -75,11 +76,10 @@ fn check_symbols<'g>(
     requires { map deref productions.now ≡ productions_of grammar.now }
     ensures { MatchResult result (λ _. HoldsBelow grammar.now 6) (RefusesGrammar grammar.now) }
 {
-    let declared = Declared::new(alloc, grammar, productions)?;
     passes(grammar, 1, failing_start(alloc, grammar, productions)?)?;
     passes(grammar, 2, failing_names(grammar)?)?;
-    passes(grammar, 3, spelling::failing_prefix(alloc, grammar)?)?;
-    passes(grammar, 4, declared.failing_symbols(alloc)?)?;
+    passes(grammar, 3, failing_prefix(alloc, grammar)?)?;
+    passes(grammar, 4, failing_symbols(alloc, grammar, productions)?)?;
     passes(grammar, 5, failing_types(grammar)?)
 }
 
@@ -94,8 +94,7 @@ fn check_actions(
     ensures { MatchResult result (λ _. IsValidGrammar grammar.now) (RefusesGrammar grammar.now) }
 {
     passes(grammar, 6, failing_counts(grammar, productions)?)?;
-    let actions = grammar.action_fn_defns.as_slice();
-    passes(grammar, 7, actions::failing_circle(alloc, actions)?)?;
+    passes(grammar, 7, failing_inlines(alloc, grammar)?)?;
     passes(grammar, 8, failing_fallibles(grammar))?;
     passes(grammar, 9, failing_error_terminal(grammar)?)?;
     passes(grammar, 10, failing_distinct_terminals(alloc, grammar)?)
@@ -136,6 +135,26 @@ fn failing_action_names(grammar: &Grammar) -> Option<usize>
     Some(actions.len())
 }
 
+/// The first production, and then the first action, that names what isn't declared; a production
+/// fails also where an equal one stands before it, or under another nonterminal.
+fn failing_symbols<'g>(
+    alloc: Global,
+    grammar: &'g Grammar,
+    productions: &[&'g Production],
+) -> Result<Option<usize>, AllocError>
+    requires { map deref productions.now ≡ productions_of grammar.now }
+    ensures { IfOk result (IsFirstFailing (Says grammar.now symbols)) }
+{
+    let terminals = declared::terminals(alloc, grammar)?;
+    if let Some(place) = declared::failing_production(alloc, grammar, &terminals, productions)? {
+        return Ok(Some(place));
+    }
+    after(
+        productions.len(),
+        declared::failing_action(grammar, &terminals),
+    )
+}
+
 /// The first terminal, and then the first nonterminal, without a type; a terminal but the error
 /// terminal fails also without a pattern.
 fn failing_types(grammar: &Grammar) -> Result<Option<usize>, AllocError>
@@ -161,6 +180,12 @@ fn failing_counts(
         return Ok(Some(place));
     }
     after(productions.len(), actions::failing_action_count(actions))
+}
+
+fn failing_inlines(alloc: Global, grammar: &Grammar) -> Result<Option<usize>, AllocError>
+    ensures { IfOk result (IsFirstFailing (Says grammar.now inlines)) }
+{
+    failing_inline(alloc, grammar.action_fn_defns.as_slice())
 }
 
 fn failing_fallibles(grammar: &Grammar) -> Option<usize>
@@ -204,6 +229,20 @@ fn after(before: usize, failing: Option<usize>) -> Result<Option<usize>, AllocEr
     }
 }
 
+/// The first failing place of a list of so many things and of what stands after them.
+pub(crate) fn then(
+    count: usize,
+    first: Option<usize>,
+    second: Option<usize>,
+) -> Result<Option<usize>, AllocError>
+    ensures { IfOk result (λ place. place ≡ then_place count first second) }
+{
+    match first {
+        Some(place) => Ok(Some(place)),
+        None => after(count, second),
+    }
+}
+
 /// Refuses where the rule has a failing place.
 fn passes(_grammar: &Grammar, rule: u8, failing: Option<usize>) -> Result<(), GrammarFault>
     requires low { 1 ≤ rule }
@@ -215,13 +254,5 @@ fn passes(_grammar: &Grammar, rule: u8, failing: Option<usize>) -> Result<(), Gr
     match failing {
         None => Ok(()),
         Some(place) => Err(GrammarFault::Rule { rule, place }),
-    }
-}
-
-/// A failing place of a list whose places begin with a number.
-pub(crate) fn from_place(before: usize, failing: Option<usize>) -> Option<usize> {
-    match failing {
-        None => None,
-        Some(place) => Some(before.saturating_add(place)),
     }
 }

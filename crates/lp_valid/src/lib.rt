@@ -2,6 +2,8 @@
 #![tactic(auto)]
 
 mod actions;
+mod apart;
+mod circles;
 mod declared;
 mod grammars;
 mod item_sets;

@@ -72,7 +72,7 @@ fn has<'g>(names: &BTreeSet<&'g NonterminalString>, name: &'g NonterminalString)
     names.contains(&name)
 }
 
-fn is_declared(grammar: &Grammar, name: &NonterminalString) -> bool
+pub(crate) fn is_declared(grammar: &Grammar, name: &NonterminalString) -> bool
     ensures { result ≡ is_declared grammar.now name.now }
 {
     grammar.nonterminals.contains_key(name)

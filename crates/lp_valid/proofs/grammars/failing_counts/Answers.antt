@@ -1,4 +1,4 @@
-use Rattle.std.proofs.Common.{◌≡◌, ◌∙◌, length, map, sym, ap, subst, Some, None, IfOk}
+use Rattle.std.proofs.Common.{◌∙◌, length, sym, ap, subst, Some, None, IfOk}
 use Rattle.std.specs.Map.Iter.{deref}
 use Rattle.std.proofs.lemmas.List.{length-map}
 use Rattle.lp_repr.specs.Numbering.{productions_of}

@@ -1,4 +1,4 @@
-use Rattle.std.proofs.Common.{◌∙◌, length, sym, ap, refl, Some, None}
+use Rattle.std.proofs.Common.{◌∙◌, length, sym, ap, Some, None}
 use Rattle.lp_repr.specs.Numbering.{terminals_of, nonterminals_of}
 use Rattle.lp_valid.specs.Places.{EachPasses}
 use Rattle.lp_valid.specs.TerminalRules.{terminal_has_type, nonterminal_has_type}

@@ -1,4 +1,4 @@
-use Rattle.std.proofs.Common.{◌∙◌, sym, subst, Some, None}
+use Rattle.std.proofs.Common.{subst}
 use Rattle.lp_valid.specs.Places.{IsFirstFailing}
 use Rattle.lp_valid.specs.ValidGrammar.{Says}
 use Rattle.lp_valid.proofs.LeastFailure.{one_more_holds}

@@ -1,4 +1,4 @@
-use Rattle.std.proofs.Common.{◌≡◌, ◌∙◌, ◌<◌, ◌||◌, Bor, length, take, refl, sym, ap, arith, Some, slice_get, below_more, ⊎_elim}
+use Rattle.std.proofs.Common.{◌≡◌, ◌∙◌, ◌||◌, Bor, length, refl, sym, ap, arith, Some, slice_get, below_more, ⊎_elim}
 use Rattle.std.specs.Ordering.{is_eq}
 use Rattle.std.specs.BTreeSet.{contains}
 use Rattle.std.proofs.lemmas.Bool.{cases_lt}
@@ -25,4 +25,4 @@ loop-place-preserved g c =
     )
 
 pub returns : goal.returns
-returns g c = λ k. ⊎_elim (λ less. c.loop-place.invariant.1 k (omega arith)) (λ past. new_past g.T.Ord.cmp c.args.items.now k past) (cases_lt k (length c.args.items.now))
+returns g c = λ k. ⊎_elim (λ less. c.loop-place.invariant.1 k (omega arith)) (λ past. new_past (λ y x. is_eq (g.T.Ord.cmp y x)) c.args.items.now k past) (cases_lt k (length c.args.items.now))

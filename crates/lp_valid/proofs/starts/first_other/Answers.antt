@@ -1,7 +1,6 @@
-use Rattle.std.proofs.Common.{◌≡◌, ◌∙◌, length, refl, sym, ap, arith, not, Some, slice_get, below_more, ⊎_elim}
+use Rattle.std.proofs.Common.{length, arith, ⊎_elim}
 use Rattle.std.specs.Map.Iter.{deref_pair}
 use Rattle.std.proofs.lemmas.Bool.{cases_lt}
-use Rattle.std.proofs.lemmas.Option.{slice_get_read}
 use Rattle.lp_valid.specs.Members.{has}
 use Rattle.lp_valid.specs.StartRules.{is_start_unless}
 use Rattle.lp_valid.proofs.FirstFailing.{passes_past}

@@ -1,4 +1,4 @@
-use Rattle.std.proofs.Common.{◌≡◌, ◌∙◌, ◌||◌, Bor, sym, ap}
+use Rattle.std.proofs.Common.{◌∙◌, ◌||◌, Bor, sym, ap}
 use Rattle.lp_repr.specs.declared.repr.NonterminalString.{NonterminalString}
 use Rattle.lp_valid.specs.Members.{has}
 use Rattle.lp_valid.specs.StartRules.{is_nonterminal}

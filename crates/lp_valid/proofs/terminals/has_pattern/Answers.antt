@@ -1,5 +1,4 @@
-use Rattle.std.proofs.Common.{◌≡◌, ◌∙◌, ap, false, Option, Some, None}
-use Rattle.std.specs.Map.{lookup}
+use Rattle.std.proofs.Common.{◌∙◌, ap, false}
 use Rattle.std.specs.Option.{option_map_or}
 use Rattle.lp_repr.specs.Names.{same_terminal}
 use Rattle.lp_valid.specs.TerminalRules.{is_pattern}

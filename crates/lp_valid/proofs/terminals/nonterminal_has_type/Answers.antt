@@ -1,4 +1,4 @@
-use Rattle.std.proofs.Common.{◌≡◌, ◌∙◌, ap, sym, is_some}
+use Rattle.std.proofs.Common.{◌∙◌, ap, sym, is_some}
 use Rattle.std.specs.Cmp.Lexicographic.{texts_ties}
 use Rattle.lp_repr.specs.Names.{same_nonterminal}
 use Rattle.lp_valid.proofs.Lookups.{lookup_agree}
