@@ -6,8 +6,6 @@ mod expand;
 mod lowering;
 mod names;
 mod plain;
-#[cfg(test)]
-mod tests;
 mod types;
 
 pub use lowering::{LowerFault, lower};

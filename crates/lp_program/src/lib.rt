@@ -20,6 +20,3 @@ pub use print::{print_node, print_program};
 pub use read::{ReadFault, read_program};
 pub use tree::{Node, Program, RowNote};
 pub use view::{FormRef, FormView};
-
-#[cfg(test)]
-mod tests;

@@ -12,8 +12,6 @@ pub mod numbering;
 pub mod parse_tree;
 pub mod repr;
 mod state_parts;
-#[cfg(test)]
-mod tests;
 pub mod text;
 mod type_order;
 pub mod values;

@@ -7,8 +7,6 @@ mod piece;
 mod quoted;
 mod rest;
 mod scan;
-#[cfg(test)]
-mod tests;
 mod tok;
 mod tokenizer;
 mod word;

@@ -9,8 +9,6 @@ pub mod rust;
 pub mod sinks;
 pub mod sources;
 pub mod standard;
-#[cfg(test)]
-mod tests;
 mod uses;
 pub mod util;
 

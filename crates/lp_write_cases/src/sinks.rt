@@ -1,10 +1,10 @@
 ghost use Rattle.std.specs.Prelude.{◌<◌};
 
-use crate::{
+use lp_repr::parse_tree::Visibility;
+use lp_write::{
     CountSink, Failed, MemorySink, MemorySource, Options, RustWrite, Sink, Source, StdinSource,
     StdoutSink,
 };
-use lp_repr::parse_tree::Visibility;
 use std::alloc::Global;
 use std::io::{self, Cursor, ErrorKind, Read};
 use std::test::Fail;

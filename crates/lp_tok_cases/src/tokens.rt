@@ -1,5 +1,8 @@
 //! Worked examples, and a table of texts with their tokens and errors.
-use super::*;
+use lp_tok::{
+    Error, ErrorCode, EscapeError, Tok, Tokenizer, apply_string_escapes, closed_code, closed_use,
+    code_end, first_error,
+};
 use std::alloc::Global;
 use std::borrow::CowStr;
 use std::process::Abort;

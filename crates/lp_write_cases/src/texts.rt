@@ -1,4 +1,4 @@
-use crate::{Escape, Prefix, Sep, WriteError, literal, strip};
+use lp_write::{Escape, Prefix, Sep, WriteError, literal, strip};
 use std::test::Fail;
 
 #[test]

@@ -1,18 +1,17 @@
-mod ascent;
-mod row_one;
+//! Worked examples of programs that are printed, read and counted.
 
-use crate::build::{
+use crate::ascent::ASCENT;
+use crate::row_one::ROW_ONE;
+use lp_program::build::{
     ActionBody, FunctionName, Triples, action_fn, header, program, standard_uses, to_triple,
 };
-use crate::count::{form_count, form_number, node_count};
-use crate::piece::Piece;
-use crate::print::print_program;
-use crate::read::{ReadFault, read_program};
-use crate::tree::{Node, Program};
-use crate::view::{ActionView, FormView};
-use ascent::ASCENT;
+use lp_program::count::{form_count, form_number, node_count};
+use lp_program::piece::Piece;
+use lp_program::print::print_program;
+use lp_program::read::{ReadFault, read_program};
+use lp_program::tree::{Node, Program};
+use lp_program::view::{ActionView, FormView};
 use lp_write::{MemorySink, Options, RustWrite};
-use row_one::ROW_ONE;
 use std::alloc::Global;
 use std::borrow::CowStr;
 use std::process::Abort;

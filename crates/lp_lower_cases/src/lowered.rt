@@ -1,6 +1,9 @@
 //! Worked examples of lowering.
 
-use super::*;
+use lp_lower::{
+    LowerFault, PlainAlternative, PlainGrammar, PlainKind, PlainRule, PlainSymbol, PlainTerminal,
+    lower,
+};
 use lp_repr::parse_tree::Path;
 use lp_repr::repr::{
     ActionFnDefnKind, Algorithm, Grammar, LrCodeGeneration, NominalTypeRepr, NonterminalString,

@@ -3,15 +3,17 @@
 ghost use Rattle.std.specs.Prelude.{◌≡◌, true};
 ghost use Rattle.lp_repr.specs.StateParts.{IsInRange, AreInRange};
 
-use crate::lr1::{Item, Lr1State};
-use crate::numbering::{Numbers, SymbolNumber, first_productions, production_at, production_count};
-use crate::parse_tree::{Path, TypeParameter, Visibility};
-use crate::repr::{
+use lp_repr::lr1::{Item, Lr1State};
+use lp_repr::numbering::{
+    Numbers, SymbolNumber, first_productions, production_at, production_count,
+};
+use lp_repr::parse_tree::{Path, TypeParameter, Visibility};
+use lp_repr::repr::{
     Algorithm, Grammar, LrCodeGeneration, NominalTypeRepr, NonterminalData, NonterminalString,
     Production, Symbol, TerminalSet, TerminalString, TokenPattern, TypeRepr, Types,
 };
-use crate::values::TokenValue;
-use crate::{
+use lp_repr::values::TokenValue;
+use lp_repr::{
     FreeVariables, Items, Text, matched_terminal, max_prefix, will_pop, will_produce, will_push,
 };
 use std::alloc::{AllocError, Global};

@@ -1,0 +1,5 @@
+//! Worked examples of lowering.
+#![tactic(auto)]
+
+#[cfg(test)]
+mod lowered;

@@ -1,0 +1,5 @@
+//! Worked examples of states, numbers, tokens and free variables.
+#![tactic(auto)]
+
+#[cfg(test)]
+mod grammars;

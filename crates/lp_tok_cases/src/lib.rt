@@ -1,0 +1,5 @@
+//! Worked examples of tokens, cuts and escapes.
+#![tactic(auto)]
+
+#[cfg(test)]
+mod tokens;

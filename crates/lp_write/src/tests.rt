@@ -1,2 +1,0 @@
-mod sinks;
-mod texts;

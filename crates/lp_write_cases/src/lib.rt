@@ -1,0 +1,7 @@
+//! Worked examples of sinks, sources, written lines and texts.
+#![tactic(auto)]
+
+#[cfg(test)]
+mod sinks;
+#[cfg(test)]
+mod texts;
