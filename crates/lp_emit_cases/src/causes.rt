@@ -1,7 +1,7 @@
 //! Grammars and tables that are refused, each for one cause or for the first of two.
 
 use crate::built::{Built, HEAD, ONE_RULE, build};
-use crate::changes::{Change, change};
+use crate::changes::{Change, changed};
 use lp_emit::{EmitError, emit_parsers, emitted_text};
 use lp_program::{TextKind, TextPlace};
 use lp_write::{MemorySink, Options};
@@ -23,7 +23,7 @@ fn answer(
         return Ok(None);
     };
     for wanted in changes {
-        change(alloc, &mut built, *wanted)?;
+        changed(alloc, &mut built, *wanted)?;
     }
     let mut sink = MemorySink::new(alloc, 65_536, 64, Vec::new(alloc))?;
     let answer = emit(alloc, &built, &mut sink);

@@ -21,7 +21,7 @@ pub(crate) enum Change {
     OpenCode,
 }
 
-pub(crate) fn change(alloc: Global, built: &mut Built, change: Change) -> Result<(), AllocError> {
+pub(crate) fn changed(alloc: Global, built: &mut Built, change: Change) -> Result<(), AllocError> {
     match change {
         Change::None => Ok(()),
         Change::NoStart | Change::AllBackEnds | Change::AscentWithRecovery => {
