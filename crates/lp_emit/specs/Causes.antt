@@ -3,7 +3,7 @@ use Rattle.std.specs.Prelude.{◌≡◌, ℕ, ◌<◌, ◌≤◌, true, false, L
 use Rattle.lp_repr.specs.Numbering.{productions_of}
 use Rattle.lp_repr.specs.declared.lr1.StartStates.{StartStates}
 use Rattle.lp_repr.specs.declared.repr.Grammar.{Grammar}
-use Rattle.lp_repr.specs.declared.repr.LrCodeGeneration.TheVariants.{TestAll, TableDriven, RecursiveAscent}
+use Rattle.lp_repr.specs.declared.repr.LrCodeGeneration.TheVariants.{TestAll, RecursiveAscent}
 use Rattle.lp_valid.specs.Refusals.{RefusesGrammar}
 use Rattle.lp_valid.specs.ValidGrammar.{IsValidGrammar}
 use Rattle.lp_valid.specs.declared.grammars.GrammarFault.TheVariants.{Rule}
@@ -25,20 +25,16 @@ AsksForAll g = g.algorithm.codegen ≡ TestAll
 abbrev pub IsByAscent : Grammar → Type 0
 IsByAscent g = g.algorithm.codegen ≡ RecursiveAscent
 
--- tables are asked for
-abbrev pub IsByTables : Grammar → Type 0
-IsByTables g = g.algorithm.codegen ≡ TableDriven
-
 -- the greatest of a number and of the lengths of some lists of states
 abbrev pub greatest_of : ℕ → List StartStates → ℕ
 greatest_of n states = fold (λ most list. max most (length list.states)) n states
 
--- what has to fit the integers of tables: the productions, counted up to the greatest number, and the
--- states of each start
+-- what the integers that number states have to hold: the productions, counted up to the greatest number,
+-- and the states of each start
 abbrev pub greatest_count : Grammar → List StartStates → ℕ
 greatest_count g states = greatest_of (min (length (productions_of g)) 18446744073709551615) states
 
--- there are more states of a start, or more productions, than tables have numbers for
+-- there are more states of a start, or more productions, than there are such numbers
 abbrev pub HasTooMany : Grammar → List StartStates → ℕ → Type 0
 HasTooMany g states count = (count ≡ greatest_count g states) × (2147483647 < count)
 
@@ -55,9 +51,9 @@ IsSound g = IsSupported g × IsValidGrammar g
 abbrev pub SuitsAscent : Grammar → Type 0
 SuitsAscent g = IsByAscent g → (g.uses_error_recovery ≡ false) × HasNoClash g
 
--- where tables are asked for, their counts fit
+-- the counts fit
 abbrev pub CountsFit : Grammar → List StartStates → Type 0
-CountsFit g states = IsByTables g → greatest_count g states ≤ 2147483647
+CountsFit g states = greatest_count g states ≤ 2147483647
 
 -- none of the causes before those of tables and texts holds
 pub record IsBuildable (g : Grammar) (states : List StartStates) : Type 0 where
@@ -77,7 +73,7 @@ Refuses g states Unsupported = (¬ HasNoStart g) × AsksForAll g
 Refuses g states (BadGrammar rule place) = IsSupported g × RefusesGrammar g (Rule rule place)
 Refuses g states RecoveryInAscent = IsSound g × IsByAscent g × (g.uses_error_recovery ≡ true)
 Refuses g states (NameClash first second) = IsSound g × IsByAscent g × (g.uses_error_recovery ≡ false) × IsLeastClash g first second
-Refuses g states (TooMany count) = IsSound g × IsByTables g × HasTooMany g states count
+Refuses g states (TooMany count) = IsSound g × SuitsAscent g × HasTooMany g states count
 Refuses g states (BadTables start state rule) = IsBuildable g states × IsTableFailure g states start state rule
 Refuses g states (BadText place byte) = MayBeEmitted g states
 Refuses g states WriteFault = ⊥

@@ -3,7 +3,7 @@
 ghost use Rattle.std.specs.Prelude.{◌≡◌, ℕ, ◌<◌, ◌↔◌, Some, IsTrue, MatchResult, IfOk, IfErr, length, map, slice_get};
 ghost use Rattle.std.specs.Map.Iter.{deref};
 ghost use Rattle.std.specs.BTreeMap.{keys};
-ghost use Rattle.lp_emit.specs.Causes.{IsBuildable, IsByAscent, IsByTables, IsSound, IsSupported, MayBeEmitted, Refuses, RefusesAlways, SuitsAscent, greatest_of};
+ghost use Rattle.lp_emit.specs.Causes.{IsBuildable, IsByAscent, IsSound, IsSupported, MayBeEmitted, Refuses, RefusesAlways, SuitsAscent, greatest_of};
 ghost use Rattle.lp_emit.specs.Lists.{AreListed, HasItsList, IsListed};
 ghost use Rattle.lp_emit.specs.Steps.{IsOfTexts, RefusesLists, RefusesStates};
 
@@ -16,7 +16,7 @@ use lp_repr::{Lr1State, StartStates};
 use lp_valid::{GrammarFault, TableFault, check_grammar, check_tables};
 use std::alloc::{AllocError, Global};
 
-/// The most states of a start, and the most productions, in tables.
+/// The most states of a start, and the most productions.
 pub const MOST: usize = 2_147_483_647;
 
 /// The first cause for which nothing is emitted.
@@ -84,22 +84,10 @@ fn check_names(alloc: Global, grammar: &Grammar) -> Result<(), EmitError>
     }
 }
 
-/// The counts fit the greatest integer type of tables.
+/// The counts fit the greatest integer type of states.
 fn check_counts(grammar: &Grammar, states: &[StartStates]) -> Result<(), EmitError>
     requires sound { IsSound grammar.now }
     requires by_ascent { SuitsAscent grammar.now }
-    ensures { MatchResult result (λ _. IsBuildable grammar.now states.now) (Refuses grammar.now states.now) }
-{
-    match grammar.algorithm.codegen {
-        LrCodeGeneration::TableDriven => check_table_counts(grammar, states),
-        LrCodeGeneration::RecursiveAscent | LrCodeGeneration::TestAll => Ok(()),
-    }
-}
-
-fn check_table_counts(grammar: &Grammar, states: &[StartStates]) -> Result<(), EmitError>
-    requires sound { IsSound grammar.now }
-    requires by_ascent { SuitsAscent grammar.now }
-    requires by_tables { IsByTables grammar.now }
     ensures { MatchResult result (λ _. IsBuildable grammar.now states.now) (Refuses grammar.now states.now) }
 {
     let count = greatest_count(production_count(grammar), states);
