@@ -15,17 +15,10 @@ fn text(alloc: Global, text: &str) -> Result<Text, AllocError> {
     Text::from_str(alloc, text)
 }
 
-fn one<T>(alloc: Global, x: T) -> Result<Items<T>, AllocError>
-where
-    T: Drop,
-{
-    Ok(Items(vec![in alloc; x]?))
-}
-
 fn named(alloc: Global, name: &str) -> Result<Path, AllocError> {
     Ok(Path {
         absolute: false,
-        ids: one(alloc, text(alloc, name)?)?,
+        ids: Items(vec![in alloc; text(alloc, name)?]?),
     })
 }
 
@@ -72,8 +65,8 @@ fn grammar(alloc: Global) -> Result<Grammar, AllocError> {
         start_nonterminals: BTreeMap::new(alloc),
         uses: Items(vec![in alloc; text(alloc, "super::Node")?, text(alloc, "crate::ast")?]?),
         type_parameters: type_parameters(alloc)?,
-        parameters: one(alloc, parameter)?,
-        where_clauses: one(alloc, where_clause(alloc)?)?,
+        parameters: Items(vec![in alloc; parameter]?),
+        where_clauses: Items(vec![in alloc; where_clause(alloc)?]?),
         intern_token: None,
         action_fn_defns: Items::new(alloc),
         terminals: TerminalSet {
@@ -88,7 +81,7 @@ fn grammar(alloc: Global) -> Result<Grammar, AllocError> {
             terminals: BTreeMap::new(alloc),
             nonterminals: BTreeMap::new(alloc),
         },
-        module_attributes: one(alloc, text(alloc, "#![allow(dead_code)]")?)?,
+        module_attributes: Items(vec![in alloc; text(alloc, "#![allow(dead_code)]")?]?),
     })
 }
 
