@@ -3,7 +3,7 @@
 ghost use Rattle.std.specs.Prelude.{◌≡◌, ◌+◌, ◌<◌, ◌≤◌, length};
 ghost use Rattle.std.specs.Iterator.{at_most};
 
-use crate::texts::pattern_end;
+use lp_texts::pattern_end;
 
 /// The elements of a list that is joined by a separator, as `, ` or ` | `.
 #[derive(Drop)]
