@@ -5,7 +5,8 @@ use crate::errors::EmitError;
 use lp_program::check_texts::{TextFault, check_texts};
 use lp_repr::StartStates;
 use lp_repr::repr::{Grammar, LrCodeGeneration};
-use lp_valid::{GrammarFault, TableFault, check_grammar, check_tables};
+use lp_tables::{TableFault, check_tables};
+use lp_valid::{GrammarFault, check_grammar};
 use std::alloc::Global;
 
 /// The most states of a start, and the most productions, in emitted code.
