@@ -10,3 +10,4 @@ pub mod Once
 pub mod LeastRule
 pub mod Described
 pub mod Following
+pub mod RangeTests

@@ -23,12 +23,20 @@ pub record Known : Type 0 where
 abbrev pub known_of : Grammar → ℕ → Known
 known_of g start = record { rules = rules_of g; terminals = length (terminals_of g); nonterminals = length (nonterminals_of g); start = start_number g start }
 
--- productions, dots, terminals, nonterminals and targets are in range
-pub record IsInRange (g : Known) (states : ℕ) (s : Lr1State) : Type 0 where
+-- the productions, dots and tokens of its items and reductions are in range
+pub record HoldsKnown (g : Known) (s : Lr1State) : Type 0 where
   pub items : AllByRecursion (IsItemInRange g.rules) s.items
+  pub reductions : AllByRecursion (λ r. (r.1 < length g.rules) × AllByRecursion (IsTokenInRange g.terminals) r.0) s.reductions
+
+-- the symbols and targets of its edges are in range
+pub record LeadsWithin (g : Known) (states : ℕ) (s : Lr1State) : Type 0 where
   pub shifts : (n target : ℕ) → get nat_cmp s.shifts n ≡ Some target → (n < g.terminals) × (target < states)
   pub gotos : (n target : ℕ) → get nat_cmp s.gotos n ≡ Some target → (n < g.nonterminals) × (target < states)
-  pub reductions : AllByRecursion (λ r. (r.1 < length g.rules) × AllByRecursion (IsTokenInRange g.terminals) r.0) s.reductions
+
+-- productions, dots, terminals, nonterminals and targets are in range
+pub record IsInRange (g : Known) (states : ℕ) (s : Lr1State) : Type 0 where
+  pub parts : HoldsKnown g s
+  pub edges : LeadsWithin g states s
 
 -- the target of each edge is the closure of the state's items advanced over the edge's symbol
 pub record HasTargets (g : Known) (states : List Lr1State) (s : Lr1State) : Type 0 where

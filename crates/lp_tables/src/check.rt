@@ -1,11 +1,11 @@
 //! The check of tables, rule by rule.
 
-ghost use Rattle.std.specs.Prelude.{◌≡◌, ◌↔◌, ◌<◌, length, IfOk, IsTrue, MatchResult};
+ghost use Rattle.std.specs.Prelude.{◌≡◌, ◌↔◌, ◌<◌, length, IfErr, IfOk, IsTrue, MatchResult};
 ghost use Rattle.lp_repr.specs.ValidTables.{IsValidTables};
 ghost use Rattle.lp_tables.specs.Gathering.{AreIndexed, known_by};
 ghost use Rattle.lp_tables.specs.ItemSets.{IsSetOf};
-ghost use Rattle.lp_tables.specs.Refusals.{RefusesTables};
-ghost use Rattle.lp_tables.specs.TableRules.{number, Says, IsInRange, HasTargets, IsFirstFailingRule};
+ghost use Rattle.lp_tables.specs.Refusals.{RefusesTables, NamesTableRule};
+ghost use Rattle.lp_tables.specs.TableRules.{number, Says, HoldsKnown, LeadsWithin, IsInRange, HasTargets, IsFirstFailingRule};
 
 use crate::edges::{edges_lead, edges_stand};
 use crate::item_sets::ItemSet;
@@ -65,7 +65,8 @@ pub fn check_tables(
     start: usize,
     states: &[Lr1State],
 ) -> Result<(), TableFault>
-    ensures { MatchResult result (λ _. IsValidTables grammar.now start states.now) (RefusesTables grammar.now start states.now) }
+    ensures exact { MatchResult result (λ _. IsValidTables grammar.now start states.now) (RefusesTables grammar.now start states.now) }
+    ensures refusal { 0 < length states.now → IfErr result (NamesTableRule (length states.now)) }
 {
     if states.is_empty() {
         return Err(TableFault::Rule { rule: 1, state: 0 });
@@ -161,11 +162,24 @@ fn holds(
 fn is_in_range(tables: &Tables<'_>, state: &Lr1State) -> bool
     ensures { IsTrue result ↔ IsInRange (known_by tables.now) (length tables.now.states.now) state.now }
 {
-    let count = tables.states.len();
+    holds_known(tables, state) && leads_within(tables, state)
+}
+
+/// Whether the items and reductions of a state are in range.
+fn holds_known(tables: &Tables<'_>, state: &Lr1State) -> bool
+    ensures { IsTrue result ↔ HoldsKnown (known_by tables.now) state.now }
+{
     items_in_range(&tables.rules, state.items.as_slice())
-        && edges_in_range(&state.shifts, tables.terminals, count)
-        && edges_in_range(&state.gotos, tables.nonterminals, count)
         && reductions_in_range(state.reductions.as_slice(), tables.rules.all.len(), tables.terminals)
+}
+
+/// Whether its edges are.
+fn leads_within(tables: &Tables<'_>, state: &Lr1State) -> bool
+    ensures { IsTrue result ↔ LeadsWithin (known_by tables.now) (length tables.now.states.now) state.now }
+{
+    let count = tables.states.len();
+    edges_in_range(&state.shifts, tables.terminals, count)
+        && edges_in_range(&state.gotos, tables.nonterminals, count)
 }
 
 /// Whether the target of each edge is the closure of the state's items advanced over its symbol.
