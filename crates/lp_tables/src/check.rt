@@ -110,11 +110,7 @@ impl TableRule {
 }
 
 /// The least rule that fails at a state.
-fn failing_rule(
-    alloc: Global,
-    tables: &Tables<'_>,
-    state: usize,
-) -> Result<Option<u8>, AllocError>
+fn failing_rule(alloc: Global, tables: &Tables<'_>, state: usize) -> Result<Option<u8>, AllocError>
     requires indexed { AreIndexed tables.now }
     requires within { state < length tables.now.states.now }
     ensures { IfOk result (IsFirstFailingRule (known_by tables.now) tables.now.states.now state) }
@@ -170,7 +166,11 @@ fn holds_known(tables: &Tables<'_>, state: &Lr1State) -> bool
     ensures { IsTrue result ↔ HoldsKnown (known_by tables.now) state.now }
 {
     items_in_range(&tables.rules, state.items.as_slice())
-        && reductions_in_range(state.reductions.as_slice(), tables.rules.all.len(), tables.terminals)
+        && reductions_in_range(
+            state.reductions.as_slice(),
+            tables.rules.all.len(),
+            tables.terminals,
+        )
 }
 
 /// Whether its edges are.

@@ -53,13 +53,7 @@ fn all_come(tables: &Tables<'_>, set: &ItemSet, kind: Kind, edges: &Edges) -> bo
     true
 }
 
-fn comes_from(
-    tables: &Tables<'_>,
-    set: &ItemSet,
-    kind: Kind,
-    number: usize,
-    target: usize,
-) -> bool
+fn comes_from(tables: &Tables<'_>, set: &ItemSet, kind: Kind, number: usize, target: usize) -> bool
     requires { AllDescribed tables.now.rules.all.items tables.now.states.now tables.now.sets.items }
     ensures { IsTrue result ↔ ComesFrom tables.now.rules.all.items tables.now.states.now set.now kind number target }
 {
@@ -127,13 +121,7 @@ fn all_go_on(tables: &Tables<'_>, kind: Kind, edges: &Edges, items: &[Item]) -> 
     true
 }
 
-fn goes_on(
-    tables: &Tables<'_>,
-    kind: Kind,
-    edges: &Edges,
-    production: usize,
-    dot: usize,
-) -> bool
+fn goes_on(tables: &Tables<'_>, kind: Kind, edges: &Edges, production: usize, dot: usize) -> bool
     requires { AllDescribed tables.now.rules.all.items tables.now.states.now tables.now.sets.items }
     ensures { IsTrue result ↔ GoesOn tables.now.rules.all.items tables.now.states.now kind edges.now production dot }
 {
