@@ -1,0 +1,15 @@
+pub mod AskingLemmas
+pub mod BuilderSteps
+pub mod Closures
+pub mod EdgeLemmas
+pub mod Entries
+pub mod ItemOrder
+pub mod ItemsAfter
+pub mod KernelOrder
+pub mod LeadingAlike
+pub mod Named
+pub mod PathOrder
+pub mod RangeLemmas
+pub mod SymbolOrder
+pub mod WalkLemmas
+pub mod WalkSteps
