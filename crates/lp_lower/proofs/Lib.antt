@@ -1,0 +1,4 @@
+pub mod FirstNumbers
+pub mod Leasts
+pub mod OrderSteps
+pub mod RepeatSteps

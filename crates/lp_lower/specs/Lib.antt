@@ -1,0 +1,5 @@
+pub mod Places
+pub mod Naming
+pub mod Symbols
+pub mod Repeats
+pub mod Refusals

@@ -1,8 +1,9 @@
 //! The productions and actions of a plain grammar whose names are known.
 
 use crate::expand::{Extent, alternative_extent};
-use crate::names::{Names, Target, is_inline};
+use crate::names::{Names, Target};
 use crate::plain::{PlainAlternative, PlainGrammar, PlainKind, PlainRule};
+use crate::refusals::is_inline;
 use crate::types::{location_type, prefixed, target_type, terminal_types};
 use lp_repr::parse_tree::Visibility;
 use lp_repr::repr::{

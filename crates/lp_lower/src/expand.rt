@@ -1,8 +1,9 @@
 //! How alternatives are expanded: `@L`, `@R` and inline rules are replaced in every combination,
 //! the leftmost slowest.
 
-use crate::names::{Names, Target, is_inline};
+use crate::names::{Names, Target};
 use crate::plain::{PlainAlternative, PlainGrammar, PlainRule};
+use crate::refusals::is_inline;
 use std::alloc::{AllocError, Global};
 
 /// The most alternatives of all expanded rules together.

@@ -6,6 +6,8 @@ mod expand;
 mod lowering;
 mod names;
 mod plain;
+mod refusals;
+mod symbols;
 mod types;
 
 pub use lowering::{LowerFault, lower};

@@ -2,8 +2,10 @@
 
 use crate::build::lower_rules;
 use crate::expand::{inline_extents, too_many};
-use crate::names::{Names, duplicate, inline_order, unknown_name};
+use crate::names::Names;
 use crate::plain::PlainGrammar;
+use crate::refusals::{duplicate, inline_order, unknown_name};
+use crate::symbols::all_symbols;
 use lp_repr::repr::Grammar;
 use std::alloc::{AllocError, Global};
 
@@ -31,10 +33,11 @@ impl From<AllocError> for LowerFault {
 /// each at its least place.
 pub fn lower(alloc: Global, grammar: &PlainGrammar) -> Result<Grammar, LowerFault> {
     let names = Names::new(alloc, grammar)?;
-    if let Some(place) = unknown_name(grammar, &names) {
+    let symbols = all_symbols(alloc, grammar)?;
+    if let Some(place) = unknown_name(&names, symbols.as_slice()) {
         return Err(LowerFault::UnknownName { place });
     }
-    if let Some(place) = inline_order(grammar, &names) {
+    if let Some(place) = inline_order(alloc, &names)? {
         return Err(LowerFault::InlineOrder { place });
     }
     if let Some(place) = duplicate(alloc, grammar)? {
