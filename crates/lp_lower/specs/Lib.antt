@@ -1,5 +1,7 @@
+pub mod Choices
 pub mod Places
 pub mod Naming
 pub mod Symbols
 pub mod Repeats
 pub mod Refusals
+pub mod RightSides
