@@ -1,4 +1,6 @@
+pub mod Extents
 pub mod FirstNumbers
 pub mod Leasts
 pub mod OrderSteps
 pub mod RepeatSteps
+pub mod SideSteps

@@ -14,6 +14,6 @@ order_step g rules i r h at b inline found new whole is was =
     let rest = drop (i + 1) rules in
     let e : drop i rules ≡ r ∷ rest = drop_more rules i r h ∙ ap (λ y. y ∷ rest) at in
     let split : order_places g i (drop i rules) ≡ cond b (below_among g i (symbols_in r)) [] ++ order_places g (i + 1) rest =
-        ap (order_places g i) e ∙ ap (λ c. cond c (below_among g i (symbols_in r)) [] ++ order_places g (i + 1) rest) inline
+    ap (order_places g i) e ∙ ap (λ c. cond c (below_among g i (symbols_in r)) [] ++ order_places g (i + 1) rest) inline
     in
     least_before_if b found new whole (below_among g i (symbols_in r)) (order_places g (i + 1) rest) is (ap (λ ps. least found (least_of ps)) (sym split) ∙ was)

@@ -81,11 +81,11 @@ repeat_step {X} same place xs i x h at b there found new whole is was =
     let f : take (i + 1) xs ≡ seen ++ x ∷ [] = take_more xs i x h ∙ ap (λ y. seen ++ y ∷ []) at in
     let later = repeats_after same (seen ++ x ∷ []) rest in
     let split : map place (repeats_after same seen (drop i xs)) ≡ cond b (place x ∷ []) [] ++ map place later =
-        ap (λ ys. map place (repeats_after same seen ys)) e
-        ∙ (ap (λ c. map place (cond c (x ∷ []) [] ++ later)) there ∙ elim b as (λ c. map place (cond c (x ∷ []) [] ++ later) ≡ cond c (place x ∷ []) [] ++ map place later) [
-          | true ↦ refl
-          | false ↦ refl
-        ])
+    ap (λ ys. map place (repeats_after same seen ys)) e
+    ∙ (ap (λ c. map place (cond c (x ∷ []) [] ++ later)) there ∙ elim b as (λ c. map place (cond c (x ∷ []) [] ++ later) ≡ cond c (place x ∷ []) [] ++ map place later) [
+      | true ↦ refl
+      | false ↦ refl
+    ])
     in
     ap (λ s. least new (least_of (map place (repeats_after same s rest)))) f
     ∙ least_before_if b found new whole (place x ∷ []) (map place later) (is ∙ ap (λ o. cond b (least found o) found) (sym (least-none (Some (place x))))) (ap (λ ps. least found (least_of ps)) (sym split) ∙ was)

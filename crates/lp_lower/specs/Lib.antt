@@ -1,4 +1,5 @@
 pub mod Choices
+pub mod Extents
 pub mod Places
 pub mod Naming
 pub mod Symbols

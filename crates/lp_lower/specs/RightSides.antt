@@ -12,23 +12,32 @@ use Rattle.lp_lower.specs.declared.names.Target.TheVariants as target_of
 use Rattle.lp_lower.specs.declared.plain.PlainAlternative.{PlainAlternative}
 use Rattle.lp_lower.specs.declared.plain.PlainGrammar.{PlainGrammar}
 use Rattle.lp_lower.specs.declared.plain.PlainRule.{PlainRule}
+use Rattle.lp_lower.specs.declared.plain.PlainSymbol.{PlainSymbol}
 
 -- what may stand in the place of a rule: the rule itself, or one of its right sides where it is inline
 abbrev pub rule_options : PlainRule → List (List Symbol) → List (List Symbol)
 rule_options r sides = (if r.inline then sides else (Nonterminal r.name ∷ []) ∷ [])
 
+-- the terminal of this number stands for itself
+abbrev pub terminal_options : PlainGrammar → ℕ → List (List Symbol)
+terminal_options g n = option_map_or (λ t. (Terminal t.name ∷ []) ∷ []) (slice_get g.conversions n) []
+
 -- what may stand in the place of a symbol, by the right sides of the inline rules so far
 abbrev pub side_options : PlainGrammar → List (List (List Symbol)) → Option Target → List (List Symbol)
 side_options g inlines None = []
 side_options g inlines (Some (target_of.Rule n)) = option_map_or (λ r. rule_options r (slice_index_or inlines n [])) (slice_get g.rules n) []
-side_options g inlines (Some (target_of.Terminal n)) = option_map_or (λ t. (Terminal t.name ∷ []) ∷ []) (slice_get g.conversions n) []
+side_options g inlines (Some (target_of.Terminal n)) = terminal_options g n
 side_options g inlines (Some target_of.Lookahead) = [] ∷ []
 side_options g inlines (Some target_of.Lookbehind) = [] ∷ []
 side_options g inlines (Some target_of.Error) = (Terminal Error ∷ []) ∷ []
 
--- the right sides that an alternative expands to
-unfoldable pub right_sides : PlainGrammar → List (List (List Symbol)) → PlainAlternative → List (List Symbol)
-right_sides g inlines a = map (flat_map (λ side. side)) (choices (map (λ s. side_options g inlines (target g s.kind)) a.symbols))
+-- the right sides that symbols expand to
+unfoldable pub sides_from : PlainGrammar → List (List (List Symbol)) → List PlainSymbol → List (List Symbol)
+sides_from g inlines symbols = map (flat_map (λ side. side)) (choices (map (λ s. side_options g inlines (target g s.kind)) symbols))
+
+-- those of an alternative
+abbrev pub right_sides : PlainGrammar → List (List (List Symbol)) → PlainAlternative → List (List Symbol)
+right_sides g inlines a = sides_from g inlines a.symbols
 
 -- those of a rule
 abbrev pub rule_sides : PlainGrammar → List (List (List Symbol)) → PlainRule → List (List Symbol)

@@ -247,8 +247,7 @@ impl<'a, 'n> Lowering<'a, 'n> {
 
     /// How many combinations an alternative has.
     fn combinations(&self, alternative: &PlainAlternative) -> usize {
-        let rules = self.plain.rules.as_slice();
-        alternative_extent(rules, self.names, self.inline, alternative).alternatives
+        alternative_extent(self.names, self.inline, alternative).alternatives
     }
 
     /// Whether anything in an alternative is replaced.

@@ -43,8 +43,8 @@ pub fn lower(alloc: Global, grammar: &PlainGrammar) -> Result<Grammar, LowerFaul
     if let Some(place) = duplicate(alloc, grammar)? {
         return Err(LowerFault::Duplicate { place });
     }
-    let inline = inline_extents(alloc, grammar, &names)?;
-    if let Some(place) = too_many(grammar, &names, inline.as_slice()) {
+    let inline = inline_extents(alloc, &names)?;
+    if let Some(place) = too_many(&names, inline.as_slice()) {
         return Err(LowerFault::TooManyProductions { place });
     }
     Ok(lower_rules(alloc, grammar, &names, inline.as_slice())?)

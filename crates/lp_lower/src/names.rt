@@ -1,6 +1,6 @@
 //! What the names of a plain grammar stand for.
 
-ghost use Rattle.std.specs.Prelude.{◌≡◌, IfOk};
+ghost use Rattle.std.specs.Prelude.{◌≡◌, IfOk, option_copied, slice_get};
 ghost use Rattle.std.specs.BTreeMap.{get};
 ghost use Rattle.lp_repr.specs.declared.repr.TerminalString.{TerminalString};
 ghost use Rattle.lp_repr.specs.declared.repr.TerminalString.TheVariants as terminal_string;
@@ -48,8 +48,22 @@ impl<'g> Names<'g> {
         })
     }
 
-    #[tactic(auto, unfolding(crate::specs::Naming::target))]
+    /// The rule of this number.
+    pub fn rule(&self, number: usize) -> Option<&'g PlainRule>
+        ensures { option_copied result ≡ slice_get self.now.plain.now.rules number }
+    {
+        self.plain.rules.as_slice().get(number)
+    }
+
+    /// The terminal of this number.
+    pub fn terminal(&self, number: usize) -> Option<&'g PlainTerminal>
+        ensures { option_copied result ≡ slice_get self.now.plain.now.conversions number }
+    {
+        self.plain.conversions.as_slice().get(number)
+    }
+
     /// What a symbol stands for; none where its name is neither a rule's nor a terminal's.
+    #[tactic(auto, unfolding(crate::specs::Naming::target))]
     pub fn target(&self, kind: &PlainKind) -> Option<Target>
         ensures { result ≡ target self.now.plain.now kind.now }
     {
