@@ -18,9 +18,9 @@ use Rattle.lp_lower.specs.declared.plain.PlainTerminal.{PlainTerminal}
 abbrev pub unknown_among : PlainGrammar → List PlainSymbol → List ℕ
 unknown_among g symbols = map (λ s. s.place) (filter (λ s. is_none (target g s.kind)) symbols)
 
--- of all symbols
-abbrev pub unknown_places : PlainGrammar → List ℕ
-unknown_places g = unknown_among g (symbols_of g)
+-- the least place of a symbol whose name is neither a rule's nor a terminal's
+abbrev pub unknown_name : PlainGrammar → Option ℕ
+unknown_name g = least_of (unknown_among g (symbols_of g))
 
 -- the rule of this number is inline
 abbrev pub is_inline : List PlainRule → ℕ → Bool
@@ -44,6 +44,10 @@ abbrev pub order_places : PlainGrammar → ℕ → List PlainRule → List ℕ
 order_places g number [] = []
 order_places g number (r ∷ rs) = (if r.inline then below_among g number (symbols_in r) else []) ++ order_places g (number + 1) rs
 
+-- the least place where an inline rule uses an inline rule that is not above it
+abbrev pub inline_order : PlainGrammar → Option ℕ
+inline_order g = least_of (order_places g 0 g.rules)
+
 abbrev pub same_rule : PlainRule → PlainRule → Bool
 same_rule a b = same_text a.name.0 b.name.0
 
@@ -53,6 +57,10 @@ same_name a b = same_terminal a.name b.name
 abbrev pub same_pattern : PlainTerminal → PlainTerminal → Bool
 same_pattern a b = same_text (pattern_text a.pattern) (pattern_text b.pattern)
 
--- the places of the rules and terminals that stand a second time, by their name or by the text of their pattern
+-- the places of the rules and terminals that stand again, by their name or by the text of their pattern
 abbrev pub repeated_places : PlainGrammar → List ℕ
 repeated_places g = map (λ r. r.place) (repeats same_rule g.rules) ++ (map (λ t. t.place) (repeats same_name g.conversions) ++ map (λ t. t.place) (repeats same_pattern g.conversions))
+
+-- the least place of a rule or terminal that stands again
+abbrev pub duplicate : PlainGrammar → Option ℕ
+duplicate g = least_of (repeated_places g)

@@ -1,5 +1,8 @@
 //! Lowering, and its refusals.
 
+ghost use Rattle.std.specs.Prelude.{◌≡◌, IfErr, OnOk};
+ghost use Rattle.lp_lower.specs.Causes.{IsAccepted, IsCause};
+
 use crate::build::lower_rules;
 use crate::expand::{inline_extents, too_many};
 use crate::names::Names;
@@ -24,6 +27,10 @@ pub enum LowerFault {
 }
 
 impl From<AllocError> for LowerFault {
+    ghost use Rattle.lp_lower.specs.declared.lowering.LowerFault.TheVariants.{Memory};
+
+    ghost from_gives = { λ _ e. e ≡ Memory };
+
     fn from(_e: AllocError) -> LowerFault {
         LowerFault::Memory
     }
@@ -31,7 +38,10 @@ impl From<AllocError> for LowerFault {
 
 /// The grammar that a plain grammar stands for. The refusals come in the order of `LowerFault`,
 /// each at its least place.
-pub fn lower(alloc: Global, grammar: &PlainGrammar) -> Result<Grammar, LowerFault> {
+pub fn lower(alloc: Global, grammar: &PlainGrammar) -> Result<Grammar, LowerFault>
+    ensures refused { IfErr result (IsCause grammar.now) }
+    ensures accepted { OnOk result (IsAccepted grammar.now) }
+{
     let names = Names::new(alloc, grammar)?;
     let symbols = all_symbols(alloc, grammar)?;
     if let Some(place) = unknown_name(&names, symbols.as_slice()) {

@@ -7,7 +7,7 @@ ghost use Rattle.lp_repr.specs.Shown.{pattern_text};
 ghost use Rattle.lp_lower.specs.Naming.{target};
 ghost use Rattle.lp_lower.specs.Places.{least, least_of};
 ghost use Rattle.lp_lower.specs.Repeats.{repeats};
-ghost use Rattle.lp_lower.specs.Refusals.{unknown_among, is_inline, is_inline_from, below_among, order_places, same_rule, same_name, same_pattern, repeated_places};
+ghost use Rattle.lp_lower.specs.Refusals.{unknown_among, is_inline, is_inline_from, below_among, inline_order, same_rule, same_name, same_pattern, duplicate};
 
 use crate::names::{Names, Target};
 use crate::plain::{PlainGrammar, PlainKind, PlainRule, PlainSymbol, PlainTerminal};
@@ -45,7 +45,7 @@ pub fn unknown_name(names: &Names<'_>, symbols: &[&PlainSymbol]) -> Option<usize
 
 /// The least place of a symbol of an inline rule that is an inline rule not above it.
 pub fn inline_order(alloc: Global, names: &Names<'_>) -> Result<Option<usize>, AllocError>
-    ensures { IfOk result (λ p. p ≡ least_of (order_places names.now.plain.now 0 names.now.plain.now.rules)) }
+    ensures { IfOk result (λ p. p ≡ inline_order names.now.plain.now) }
 {
     let rules = names.plain.rules.as_slice();
     let mut found = None;
@@ -94,7 +94,7 @@ pub fn is_inline(rules: &[PlainRule], number: usize) -> bool
 /// The least place of a rule or terminal that stands a second time, by its name or by the text of
 /// its pattern.
 pub fn duplicate(alloc: Global, plain: &PlainGrammar) -> Result<Option<usize>, AllocError>
-    ensures { IfOk result (λ p. p ≡ least_of (repeated_places plain.now)) }
+    ensures { IfOk result (λ p. p ≡ duplicate plain.now) }
 {
     let rule = repeated_rule(alloc, plain.rules.as_slice())?;
     let name = repeated_name(alloc, plain.conversions.as_slice())?;
