@@ -1,0 +1,4 @@
+pub mod Causes
+pub mod Clashes
+pub mod Lists
+pub mod Steps

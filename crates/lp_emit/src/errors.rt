@@ -1,6 +1,7 @@
 //! Why no text is emitted.
 
 use lp_program::TextPlace;
+use std::alloc::AllocError;
 use thiserror::Error;
 
 /// Why a text isn't emitted. The causes are looked for in this order; nothing was written but for
@@ -28,7 +29,8 @@ pub enum EmitError {
         first: usize,
         second: usize,
     },
-    /// There are more states of a start, or more productions, than 2,147,483,647.
+    /// Tables are asked for, and there are more states of a start, or more productions, than
+    /// 2,147,483,647: the greatest of these counts.
     #[error("too many")]
     TooMany {
         count: usize,
@@ -52,4 +54,15 @@ pub enum EmitError {
     /// Memory was refused.
     #[error("memory")]
     Memory,
+}
+
+impl From<AllocError> for EmitError {
+    ghost use Rattle.std.specs.Prelude.{◌≡◌};
+    ghost use Rattle.lp_emit.specs.declared.errors.EmitError.TheVariants.{Memory};
+
+    ghost from_gives = { λ _ e. e ≡ Memory };
+
+    fn from(_: AllocError) -> EmitError {
+        EmitError::Memory
+    }
 }

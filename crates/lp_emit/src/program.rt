@@ -54,10 +54,7 @@ fn add_modules<'t>(
 ) -> Result<(), AllocError> {
     for (number, (public_name, start)) in grammar.start_nonterminals.iter().enumerate() {
         if let Some(list) = states.get(number) {
-            let Some(module) = module(alloc, grammar, number, list.states.as_slice())? else {
-                continue;
-            };
-            below.push(module)?;
+            below.push(module(alloc, grammar, number, list.states.as_slice())?)?;
             let visibility = shown(alloc, &visibility_of(grammar, start))?;
             let start = lent_name(start.0.as_str());
             let public_name = lent_name(public_name.0.as_str());
@@ -67,20 +64,21 @@ fn add_modules<'t>(
     Ok(())
 }
 
-/// The module of a start; none where there is no such start, or an entry of its tables doesn't fit 32
-/// bits. Checked tables have neither.
+/// The module of a start. Where there is no such start, or an entry of its tables doesn't fit 32 bits,
+/// there is no text: checked tables have neither, but ascent code of more states than there is memory
+/// for.
 fn module<'t>(
     alloc: Global,
     grammar: &'t Grammar,
     start: usize,
     states: &'t [Lr1State],
-) -> Result<Option<Node<'t>>, AllocError> {
+) -> Result<Node<'t>, AllocError> {
     if start >= grammar.start_nonterminals.len() {
-        return Ok(None);
+        return Err(AllocError);
     }
     match first_unfit(states) {
-        Some(_) => Ok(None),
-        None => Ok(Some(parse_module(alloc, grammar, start, states)?)),
+        Some(_) => Err(AllocError),
+        None => parse_module(alloc, grammar, start, states),
     }
 }
 

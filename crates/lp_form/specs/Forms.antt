@@ -1,5 +1,5 @@
--- Which form a part is, and the numbers of the forms.
-use Rattle.std.specs.Prelude.{ℕ, Option, Some, None}
+-- Which form a part is, the numbers of the forms, and which parts are elements of lists.
+use Rattle.std.specs.Prelude.{ℕ, Bool, true, false, Option, Some, None}
 use Rattle.lp_form.specs.declared.part.Part.{Part}
 use Rattle.lp_form.specs.declared.part.Part.TheVariants as part
 use Rattle.lp_form.specs.declared.kind.FormKind.{FormKind}
@@ -131,3 +131,38 @@ form_of part.AscentSimulate = Some form.AscentSimulate
 form_of part.AscentAccepts = Some form.AscentAccepts
 form_of part.AscentExpected = Some form.AscentExpected
 form_of _ = None
+
+-- whether a part is an element of a list of its form
+unfoldable pub is_element_of : Part → Bool
+is_element_of part.TypeRow = true
+is_element_of part.ParameterRow = true
+is_element_of part.ClauseRow = true
+is_element_of part.VariantRow = true
+is_element_of part.GotoRange = true
+is_element_of part.TerminalRow = true
+is_element_of part.FieldRow = true
+is_element_of part.SelfRow = true
+is_element_of part.IntegerRow = true
+is_element_of part.SimulateAccept = true
+is_element_of part.SimulateArm = true
+is_element_of part.DriveRow = true
+is_element_of part.ReduceCallArm = true
+is_element_of part.ReduceBodyArm = true
+is_element_of part.PopLine = true
+is_element_of part.PopRow = true
+is_element_of part.ReturnRow = true
+is_element_of part.SlotLine = true
+is_element_of part.TokenRow = true
+is_element_of part.TakeLine = true
+is_element_of part.LocationRow = true
+is_element_of part.GotoArm = true
+is_element_of part.InlineSpan = true
+is_element_of part.InlineCall = true
+is_element_of part.InlineCallTyped = true
+is_element_of part.ArgumentRow = true
+is_element_of part.TypeArgument = true
+is_element_of part.InternSkip = true
+is_element_of part.InternKeep = true
+is_element_of part.AscentAccept = true
+is_element_of part.AscentArm = true
+is_element_of _ = false

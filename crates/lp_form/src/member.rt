@@ -1,10 +1,16 @@
 //! The members of each class.
 
+ghost use Rattle.std.specs.Prelude.{◌≡◌};
+ghost use Rattle.lp_form.specs.Classes.{members_of};
+
 use crate::class::Class;
 use crate::part::Part;
 
 /// The parts of a class, in the order in which a reader tries them.
-pub fn members(class: Class) -> &'static [Part] {
+#[tactic(auto, unfolding(crate::specs::Classes::members_of))]
+pub fn members(class: Class) -> &'static [Part]
+    ensures { result.now ≡ members_of class }
+{
     match class {
         Class::Use => USE,
         Class::Module => MODULE,

@@ -1,7 +1,7 @@
 //! The parts of a program: the printed forms, their rows, and the alternatives of their lines.
 
 ghost use Rattle.std.specs.Prelude.{◌≡◌};
-ghost use Rattle.lp_form.specs.Forms.{form_of};
+ghost use Rattle.lp_form.specs.Forms.{form_of, is_element_of};
 
 use crate::kind::FormKind;
 
@@ -378,39 +378,42 @@ pub fn form(part: Part) -> Option<FormKind>
 }
 
 /// Whether a part is an element of a list of its form.
-pub fn is_element(part: Part) -> bool {
+#[tactic(auto, unfolding(crate::specs::Forms::is_element_of))]
+pub fn is_element(part: Part) -> bool
+    ensures { result ≡ is_element_of part }
+{
     match part {
-        Part::TypeRow
-        | Part::ParameterRow
-        | Part::ClauseRow
-        | Part::VariantRow
-        | Part::GotoRange
-        | Part::TerminalRow
-        | Part::FieldRow
-        | Part::SelfRow
-        | Part::IntegerRow
-        | Part::SimulateAccept
-        | Part::SimulateArm
-        | Part::DriveRow
-        | Part::ReduceCallArm
-        | Part::ReduceBodyArm
-        | Part::PopLine
-        | Part::PopRow
-        | Part::ReturnRow
-        | Part::SlotLine
-        | Part::TokenRow
-        | Part::TakeLine
-        | Part::LocationRow
-        | Part::GotoArm
-        | Part::InlineSpan
-        | Part::InlineCall
-        | Part::InlineCallTyped
-        | Part::ArgumentRow
-        | Part::TypeArgument
-        | Part::InternSkip
-        | Part::InternKeep
-        | Part::AscentAccept
-        | Part::AscentArm => true,
+        Part::TypeRow => true,
+        Part::ParameterRow => true,
+        Part::ClauseRow => true,
+        Part::VariantRow => true,
+        Part::GotoRange => true,
+        Part::TerminalRow => true,
+        Part::FieldRow => true,
+        Part::SelfRow => true,
+        Part::IntegerRow => true,
+        Part::SimulateAccept => true,
+        Part::SimulateArm => true,
+        Part::DriveRow => true,
+        Part::ReduceCallArm => true,
+        Part::ReduceBodyArm => true,
+        Part::PopLine => true,
+        Part::PopRow => true,
+        Part::ReturnRow => true,
+        Part::SlotLine => true,
+        Part::TokenRow => true,
+        Part::TakeLine => true,
+        Part::LocationRow => true,
+        Part::GotoArm => true,
+        Part::InlineSpan => true,
+        Part::InlineCall => true,
+        Part::InlineCallTyped => true,
+        Part::ArgumentRow => true,
+        Part::TypeArgument => true,
+        Part::InternSkip => true,
+        Part::InternKeep => true,
+        Part::AscentAccept => true,
+        Part::AscentArm => true,
         _ => false,
     }
 }

@@ -1,11 +1,17 @@
 //! The template of each part.
 
+ghost use Rattle.std.specs.Prelude.{◌≡◌};
+ghost use Rattle.lp_form.specs.Templates.{lines_of, steps_of, holes_of};
+
 use crate::forms::{action, ascent, ascent_reduce, frame, machine, parser, reduce, table};
 use crate::part::Part;
 use crate::template::{Kind, Line};
 
 /// The steps of a part, in the order of the text.
-pub fn steps(part: Part) -> &'static [Line] {
+#[tactic(auto, unfolding(crate::specs::Templates::steps_of))]
+pub fn steps(part: Part) -> &'static [Line]
+    ensures { lines_of result.now ≡ steps_of part }
+{
     match part {
         Part::Program => frame::PROGRAM,
         Part::Attribute => frame::ATTRIBUTE,
@@ -157,7 +163,10 @@ pub fn steps(part: Part) -> &'static [Line] {
 }
 
 /// What each hole of a part holds.
-pub fn holes(part: Part) -> &'static [Kind] {
+#[tactic(auto, unfolding(crate::specs::Templates::holes_of))]
+pub fn holes(part: Part) -> &'static [Kind]
+    ensures { result.now ≡ holes_of part }
+{
     match part {
         Part::Attribute => frame::ATTRIBUTE_HOLES,
         Part::ParseModule => frame::PARSE_MODULE_HOLES,
@@ -255,7 +264,56 @@ pub fn holes(part: Part) -> &'static [Kind] {
         Part::AscentArm => ascent::ASCENT_ARM_HOLES,
         Part::AscentAccepts => ascent::ASCENT_ACCEPTS_HOLES,
         Part::AscentExpected => ascent::ASCENT_EXPECTED_HOLES,
-        _ => NO_HOLES,
+        Part::Program => NO_HOLES,
+        Part::UseLine => NO_HOLES,
+        Part::StandardUses => NO_HOLES,
+        Part::TokenUseInterned => NO_HOLES,
+        Part::TokenUsePlain => NO_HOLES,
+        Part::TableItems => NO_HOLES,
+        Part::AscentItems => NO_HOLES,
+        Part::HeaderExpectedFromStates => NO_HOLES,
+        Part::HeaderTokenToInteger => NO_HOLES,
+        Part::HeaderTokenToSymbol => NO_HOLES,
+        Part::HeaderSimulateReduce => NO_HOLES,
+        Part::HeaderAccepts => NO_HOLES,
+        Part::HeaderReduce => NO_HOLES,
+        Part::ResultUnit => NO_HOLES,
+        Part::Clauses => NO_HOLES,
+        Part::TokenSourceInterned => NO_HOLES,
+        Part::TokenSourcePlain => NO_HOLES,
+        Part::TerminalList => NO_HOLES,
+        Part::RecoveryOff => NO_HOLES,
+        Part::TokenToInteger => NO_HOLES,
+        Part::TokenToSymbol => NO_HOLES,
+        Part::SimulateReduce => NO_HOLES,
+        Part::Reduce => NO_HOLES,
+        Part::ReduceBody => NO_HOLES,
+        Part::SpanEmpty => NO_HOLES,
+        Part::OutcomeStart => NO_HOLES,
+        Part::Mismatch => NO_HOLES,
+        Part::ReduceFn => NO_HOLES,
+        Part::NextToken => NO_HOLES,
+        Part::ReduceEnd => NO_HOLES,
+        Part::LastEnd => NO_HOLES,
+        Part::ReturnLine => NO_HOLES,
+        Part::ErrorArm => NO_HOLES,
+        Part::LocationDefault => NO_HOLES,
+        Part::LocationChain => NO_HOLES,
+        Part::GotoReturn => NO_HOLES,
+        Part::GotoLoop => NO_HOLES,
+        Part::GotoOther => NO_HOLES,
+        Part::ActionFn => NO_HOLES,
+        Part::ActionFnUnused => NO_HOLES,
+        Part::Lookaround => NO_HOLES,
+        Part::LookaroundUnused => NO_HOLES,
+        Part::UserBody => NO_HOLES,
+        Part::LookaheadBody => NO_HOLES,
+        Part::LookbehindBody => NO_HOLES,
+        Part::InlineBody => NO_HOLES,
+        Part::CallEndPlain => NO_HOLES,
+        Part::CallEndFallible => NO_HOLES,
+        Part::TokenModule => NO_HOLES,
+        Part::WhitespaceRow => NO_HOLES,
     }
 }
 

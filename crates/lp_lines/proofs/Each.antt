@@ -50,3 +50,7 @@ map_fused f g (x ∷ xs) = ap (λ zs. f (g x) ∷ zs) (map_fused f g xs)
 -- the elements of a list that is seen through a function
 pub all_some_fused : {X Y Z : Type 0} (f : Y → Option Z) (g : X → Y) (xs : List X) (ys : List Y) → map g xs ≡ ys → all_some (map (λ x. f (g x)) xs) ≡ all_some (map f ys)
 all_some_fused f g xs ys e = ap all_some (sym (map_fused f g xs) ∙ ap (map f) e)
+
+-- elements that are seen through a function, by a reader that is equal to another
+pub map_seen : {X Y Z : Type 0} (f h : Y → Z) (g : X → Y) (xs : List X) (ys : List Y) → f ≡ h → map g xs ≡ ys → map (λ x. f (g x)) xs ≡ map h ys
+map_seen f h g xs ys e d = sym (map_fused f g xs) ∙ (ap (map f) d ∙ ap (λ k. map k ys) e)

@@ -2,7 +2,8 @@
 
 ghost use Rattle.std.specs.Prelude.{◌≡◌, ◌≤◌, ◌-◌, map, length, slice_get, Some, IfOk, IfErr};
 ghost use Rattle.lp_lines.specs.Scan.{all_some, number_of};
-ghost use Rattle.lp_lines.specs.TokenLines.{budget_of as budget_number, failing_of as failing_numbers, numbers_of, is_empty_line, lines_of};
+ghost use Rattle.lp_lines.specs.TokenLines.{budget_of as budget_number, failing_of as failing_numbers, numbers_of, is_empty_line, line_of, lines_of, RefusesLine};
+ghost use Rattle.lp_lines.specs.Vocabularies.{vocabulary_of};
 
 use crate::scan::{number, split};
 use crate::vocabulary::Vocabulary;
@@ -66,7 +67,11 @@ pub fn read_token_lines(
     alloc: Global,
     grammar: &Grammar,
     tail: &[u8],
-) -> Result<Vec<TokenLine>, LineFault> {
+) -> Result<Vec<TokenLine>, LineFault>
+    ensures few { IfOk result (λ _. length (lines_of tail.now) ≤ 64) }
+    ensures read { IfOk result (λ list. all_some (map (line_of (vocabulary_of grammar.now)) (lines_of tail.now)) ≡ Some list.items) }
+    ensures refused { IfErr result (RefusesLine (map (line_of (vocabulary_of grammar.now)) (lines_of tail.now))) }
+{
     let vocabulary = Vocabulary::new(alloc, grammar)?;
     let lines = lines(alloc, tail)?;
     vocabulary.lines(alloc, lines.as_slice())

@@ -6,9 +6,11 @@ ghost use Rattle.std.specs.Str.{bytes_eq};
 ghost use Rattle.lp_lines.specs.Scan.{all_some};
 ghost use Rattle.std.specs.Option.{option_copied};
 ghost use Rattle.lp_lines.specs.TokenLines.{span_of as span_numbers, before_closer as closed_before, payload_of, payloads_of, fault_of};
+ghost use Rattle.lp_repr.specs.Numbering.{terminals_of};
+ghost use Rattle.lp_lines.specs.Vocabularies.{starts_of as start_names, form_in, form_of as pattern_form};
 
 use crate::scan::{ascii_text, is_name, is_payload, number, split, split_once};
-use lp_repr::repr::{Grammar, TokenPattern};
+use lp_repr::repr::{Grammar, TerminalString, TokenPattern};
 use lp_repr::text::{Items, Text};
 use lp_repr::values::{Loc, RunItem, TokenValue};
 use std::alloc::{AllocError, Global};
@@ -35,25 +37,16 @@ pub struct Vocabulary {
 impl Vocabulary {
     ghost use Rattle.lp_lines.specs.Scan.{split_at};
     ghost use Rattle.lp_lines.specs.TokenLines.{start_of, place_of, item_of, spanned_of, value_of, terminal_of, token_of, form_at};
+    ghost use Rattle.lp_lines.specs.Vocabularies.{vocabulary_of};
 
     /// What token lines of a grammar may name.
-    pub fn new(alloc: Global, grammar: &Grammar) -> Result<Vocabulary, AllocError> {
-        let mut starts = Items::new(alloc);
-        for name in grammar.start_nonterminals.keys() {
-            starts.0.push(name.0.clone()?)?;
-        }
-        let mut forms = Items::new(alloc);
-        for terminal in grammar.terminals.all.as_slice() {
-            let form = match grammar.conversions.get(terminal) {
-                None => None,
-                Some(pattern) => Some(form_of(alloc, pattern)?),
-            };
-            forms.0.push(form)?;
-        }
+    pub fn new(alloc: Global, grammar: &Grammar) -> Result<Vocabulary, AllocError>
+        ensures { IfOk result (λ v. v ≡ vocabulary_of grammar.now) }
+    {
         Ok(Vocabulary {
             located: grammar.types.loc.is_some(),
-            starts,
-            forms,
+            starts: Items(starts_of(alloc, grammar)?),
+            forms: Items(forms_of(alloc, grammar)?),
         })
     }
 
@@ -253,16 +246,47 @@ fn payloads_in(alloc: Global, parts: &[&[u8]]) -> Result<Option<Items<Text>>, Al
     Ok(Some(Items(list)))
 }
 
-fn form_of(alloc: Global, pattern: &TokenPattern) -> Result<Form, AllocError> {
-    let mut text = String::new(alloc);
-    for (number, piece) in pattern.pieces.as_slice().iter().enumerate() {
-        if number > 0 {
-            text.push_str("_")?;
-        }
-        text.push_str(piece.as_str())?;
+/// The public names, in key order.
+fn starts_of(alloc: Global, grammar: &Grammar) -> Result<Vec<Text>, AllocError>
+    ensures { IfOk result (λ starts. starts.items ≡ start_names grammar.now) }
+{
+    let mut starts = Vec::new(alloc);
+    for name in grammar.start_nonterminals.keys() {
+        starts.push(name.0.clone()?)?;
     }
+    Ok(starts)
+}
+
+/// The form of each terminal, by number.
+fn forms_of(alloc: Global, grammar: &Grammar) -> Result<Vec<Option<Form>>, AllocError>
+    ensures { IfOk result (λ forms. forms.items ≡ map (form_in grammar.now) (terminals_of grammar.now)) }
+{
+    let mut forms = Vec::new(alloc);
+    for terminal in grammar.terminals.all.as_slice() {
+        forms.push(form_of(alloc, grammar, terminal)?)?;
+    }
+    Ok(forms)
+}
+
+/// The form of a terminal; none for the error terminal.
+fn form_of(
+    alloc: Global,
+    grammar: &Grammar,
+    terminal: &TerminalString,
+) -> Result<Option<Form>, AllocError>
+    ensures { IfOk result (λ form. form ≡ form_in grammar.now terminal.now) }
+{
+    match grammar.conversions.get(terminal) {
+        None => Ok(None),
+        Some(pattern) => Ok(Some(form_of_pattern(alloc, pattern)?)),
+    }
+}
+
+fn form_of_pattern(alloc: Global, pattern: &TokenPattern) -> Result<Form, AllocError>
+    ensures { IfOk result (λ form. form ≡ pattern_form pattern.now) }
+{
     Ok(Form {
-        text: Text(text),
+        text: Text(pattern.to_string(alloc)?),
         captures: pattern.holes.as_slice().len(),
     })
 }

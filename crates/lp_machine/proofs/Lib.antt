@@ -1,4 +1,5 @@
 pub mod MoreMoves
+pub mod KeptCalls
 pub mod RunMoves
 pub mod ExpectedLists
 pub mod RecoveryChoice

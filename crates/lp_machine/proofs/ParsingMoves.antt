@@ -30,6 +30,7 @@ use Rattle.lp_machine.specs.Move.{located, token_in, takes, pulls, shifted_tripl
 use Rattle.lp_machine.specs.TableAnswers.{number_of, entry_of, tables_in, with_steps, with_calls, says_or_sticks, located_item, table_answers}
 use Rattle.lp_machine.specs.DriverStanding.{in_hand, mending_of, stacks_of, stands}
 use Rattle.lp_machine.proofs.MoreMoves.{Leads}
+use Rattle.lp_machine.proofs.KeptCalls.{no_action_keeps, does_keeps, asks_keeps, ready_keeps, takes_keeps}
 use Rattle.lp_machine.proofs.ExpectedLists.{chosen, within, at_place, past_place}
 use Rattle.lp_machine.proofs.TurnsMove.{EndsWith, Fits, Follows, Goes, Comes, before, asked, enters, at_state, listed, reduction_goes, top_number, one_number}
 
@@ -62,15 +63,15 @@ module _ (items : List RunItem) (w : Driver Value) (taken : ℕ) (rest : w.items
   token_error : (l : driver.Lookahead) (d : TableDefinition)
       → Follows (tables_in d) items (no_action (tables_in d) items (stacks_of w d.calls taken (Some l) None)) (turn.error_at_token table_answers w l d)
   token_error l d =
-      asked (tables_in d) items _ d.left d _ _ (λ k.
-      listed items (stacks_of w d.calls taken (Some l) None) w.states (with_steps d k) (Some l.token) (is_some (tables_in d).error) _ (λ found j.
+      asked (tables_in d) items _ d.left d _ _ (no_action_keeps (tables_in d) items (stacks_of w d.calls taken (Some l) None)) (λ k.
+      listed items (stacks_of w d.calls taken (Some l) None) w.states (with_steps d k) (Some l.token) (is_some (tables_in d).error) _ refl (λ found j.
       error_goes (Some l) tt (with_steps (with_steps d k) j) (failure.UnrecognizedToken l.token found) (is_some (tables_in d).error)))
 
   end_error : w.items ≡ [] → (d : TableDefinition)
       → Follows (tables_in d) items (no_action (tables_in d) items (stacks_of w d.calls taken None None)) (turn.error_at_end table_answers w d)
   end_error none d =
-      asked (tables_in d) items _ d.left d _ _ (λ k.
-      listed items (stacks_of w d.calls taken None None) w.states (with_steps d k) None (is_some (tables_in d).error) _ (λ found j.
+      asked (tables_in d) items _ d.left d _ _ (no_action_keeps (tables_in d) items (stacks_of w d.calls taken None None)) (λ k.
+      listed items (stacks_of w d.calls taken None None) w.states (with_steps d k) None (is_some (tables_in d).error) _ refl (λ found j.
       error_goes None none (with_steps (with_steps d k) j) (failure.UnrecognizedEof w.last found) (is_some (tables_in d).error)))
 
   -- with a token in hand
@@ -78,7 +79,7 @@ module _ (items : List RunItem) (w : Driver Value) (taken : ℕ) (rest : w.items
       → Follows (tables_in d) items (with_left (stacks_of w d.calls taken (Some l) None) (Shifts to)) (turn.by_action table_answers w l (pos (suc to)) d)
   shift_goes l to d =
       let c = stacks_of w d.calls taken (Some l) None in
-      asked (tables_in d) items _ d.left d _ _ (λ k.
+      asked (tables_in d) items _ d.left d _ _ refl (λ k.
       Goes (turn.shifted table_answers w l to ((tables_in d).value l.index l.token.1)) (with_steps d k) taken refl (record { rest = rest; ends = tt; begin = begin })
       (suc zero, ap (λ ns. ready (tables_in d) items (record c { states = ns; triples = shifted_triples (tables_in d) items c c.lookahead; lookahead = None })) (sym (one_number w.states to))))
 
@@ -87,23 +88,24 @@ module _ (items : List RunItem) (w : Driver Value) (taken : ℕ) (rest : w.items
   token_does l d act =
       let t = tables_in d in
       let c = stacks_of w d.calls taken (Some l) None in
-      enters t items _ act d (turn.by_action table_answers w l)
+      enters t items _ act d (turn.by_action table_answers w l) (does_keeps t items c act)
       (λ is. subst (λ a. Follows t items (does t items c a) (turn.by_action table_answers w l (pos 0) d)) (sym is) (token_error l d))
       (λ to is. subst (λ a. Follows t items (does t items c a) (turn.by_action table_answers w l (pos (suc to)) d)) (sym is) (shift_goes l to d))
       (λ p is. subst (λ a. Follows t items (does t items c a) (turn.by_action table_answers w l (negsuc p) d)) (sym is)
-      (asked t items _ d.left d _ _ (λ k.
+      (asked t items _ d.left d _ _ (does_keeps t items c (ReduceBy p)) (λ k.
       reduction_goes items w taken (Some l) None (with_steps d k) (λ r d'. turn.after_reduction table_answers w l r r.ending d') (record {
         valued = λ calls value. Comes (Fails (failure.ExtraToken l.token)) (with_calls (with_steps d k) calls) _ (0, refl) refl refl;
         failed = λ calls f. Comes (Fails f) (with_calls (with_steps d k) calls) _ (0, refl) refl refl;
         goes = λ calls states symbols. Goes _ (with_calls (with_steps d k) calls) taken refl (record { rest = rest; ends = tt; begin = begin }) (0, refl);
-      }) (no_action t items c) p)))
+      }) (no_action t items c) (no_action_keeps t items c) p)))
 
   pub token_goes : (l : driver.Lookahead) (d : TableDefinition)
       → Follows (tables_in d) items (ready (tables_in d) items (stacks_of w d.calls taken (Some l) None)) (turn.at_token table_answers w l d)
   token_goes l d =
       let t = tables_in d in
-      at_state t items _ (last_of w.states) d _ (λ s top.
-      asked t items _ d.left d _ _ (λ k.
+      let same = ready_keeps t items (stacks_of w d.calls taken (Some l) None) in
+      at_state t items _ (last_of w.states) d _ same (λ s top.
+      asked t items _ d.left d _ _ same (λ k.
       subst (λ o. Follows t items (does t items (stacks_of w d.calls taken (Some l) None) (action_on t o (Some l.index))) (driver.on_answer (says_or_sticks (entry_of (action_on t (Some (number_of s)) (Some l.index))) (with_steps d k)) (turn.by_action table_answers w l))) (sym (top_number w.states s top))
       (token_does l (with_steps d k) (action_on t (Some (number_of s)) (Some l.index)))))
 
@@ -113,22 +115,23 @@ module _ (items : List RunItem) (w : Driver Value) (taken : ℕ) (rest : w.items
   end_does none d act shifts =
       let t = tables_in d in
       let c = stacks_of w d.calls taken None None in
-      enters t items _ act d (turn.by_eof_action table_answers w)
+      enters t items _ act d (turn.by_eof_action table_answers w) (does_keeps t items c act)
       (λ is. subst (λ a. Follows t items (does t items c a) (turn.by_eof_action table_answers w (pos 0) d)) (sym is) (end_error none d))
       (λ to is. absurd (shifts to is))
       (λ p is. subst (λ a. Follows t items (does t items c a) (turn.by_eof_action table_answers w (negsuc p) d)) (sym is)
-      (asked t items _ d.left d _ _ (λ k.
+      (asked t items _ d.left d _ _ (does_keeps t items c (ReduceBy p)) (λ k.
       reduction_goes items w taken None None (with_steps d k) (λ r d'. turn.ends_or table_answers w (Parsing None) r r.ending d') (record {
         valued = λ calls value. Comes (Gives value) (with_calls (with_steps d k) calls) _ (0, refl) refl refl;
         failed = λ calls f. Comes (Fails f) (with_calls (with_steps d k) calls) _ (0, refl) refl refl;
         goes = λ calls states symbols. Goes _ (with_calls (with_steps d k) calls) taken refl (record { rest = rest; ends = tt; begin = begin }) (0, refl);
-      }) (no_action t items c) p)))
+      }) (no_action t items c) (no_action_keeps t items c) p)))
 
   end_goes : w.items ≡ [] → (d : TableDefinition) → Follows (tables_in d) items (asks (tables_in d) items (stacks_of w d.calls taken None None)) (turn.at_end table_answers w d)
   end_goes none d =
       let t = tables_in d in
-      at_state t items _ (last_of w.states) d _ (λ s top.
-      asked t items _ d.left d _ _ (λ k.
+      let same = asks_keeps t items (stacks_of w d.calls taken None None) in
+      at_state t items _ (last_of w.states) d _ same (λ s top.
+      asked t items _ d.left d _ _ same (λ k.
       subst (λ o. Follows t items (does t items (stacks_of w d.calls taken None None) (action_on t o None)) (driver.on_answer (says_or_sticks (entry_of (action_on t (Some (number_of s)) None)) (with_steps d k)) (turn.by_eof_action table_answers w))) (sym (top_number w.states s top))
       (end_does none (with_steps d k) (action_on t (Some (number_of s)) None) (λ to is. end_shifts_none d (number_of s) to is))))
 
@@ -136,7 +139,7 @@ module _ (items : List RunItem) (w : Driver Value) (taken : ℕ) (rest : w.items
   terminal_goes : (more : List RunItem) → more ≡ drop (taken + 1) items → (d : TableDefinition) (token : Spanned Token) (o : Option ℕ)
       → Follows (tables_in d) items (takes (tables_in d) items (record (stacks_of w d.calls taken None None) { taken = taken + 1; last = token.2 }) token o) (turn.taken table_answers (with_mode w (Parsing None)) more token o d)
   terminal_goes more after d token None =
-      listed items (record (stacks_of w d.calls taken None None) { taken = taken + 1; last = token.2 }) w.states d (Some token) false _ (λ found k.
+      listed items (record (stacks_of w d.calls taken None None) { taken = taken + 1; last = token.2 }) w.states d (Some token) false _ refl (λ found k.
       Comes (Fails (failure.UnrecognizedToken token found)) (with_steps d k) _ (0, refl) refl refl)
   terminal_goes more after d token (Some i) =
       Goes _ d (taken + 1) refl (record { rest = after; ends = tt; begin = begin }) (0, refl)
@@ -145,7 +148,8 @@ module _ (items : List RunItem) (w : Driver Value) (taken : ℕ) (rest : w.items
       → Follows (tables_in d) items (pulls (tables_in d) items (stacks_of w d.calls taken None None) (Some next)) (turn.pulled table_answers (with_mode w (Parsing None)) more (located_item (tables_in d).is_located next) d)
   item_goes more after d (item.Fault name) = Comes (Fails (failure.User (user.Fault name))) d _ (0, refl) refl refl
   item_goes more after d (item.Token a token b) =
-      asked (tables_in d) items _ d.left d _ _ (λ k.
+      let at = token_in (tables_in d) items a token b in
+      asked (tables_in d) items _ d.left d _ _ (takes_keeps (tables_in d) items (record (stacks_of w d.calls taken None None) { taken = taken + 1; last = at.2 }) at ((tables_in d).terminal token)) (λ k.
       terminal_goes more after (with_steps d k) (token_in (tables_in d) items a token b) ((tables_in d).terminal token))
 
   pull_goes : (more : List RunItem) → w.items ≡ more → (d : TableDefinition)

@@ -39,9 +39,10 @@ use Rattle.lp_machine.specs.Move.{token_in, checked, checks, mends, drops_or, lo
 use Rattle.lp_machine.specs.TableAnswers.{number_of, entry_of, state_of, tables_in, with_steps, with_calls, with_stuck, located_item, step_from, says_or_sticks, simulated_by, reduce, table_answers}
 use Rattle.lp_machine.specs.DriverStanding.{in_hand, mending_of, stacks_of, tries, stands}
 use Rattle.lp_machine.proofs.MoreMoves.{Leads, then_leads}
+use Rattle.lp_machine.proofs.KeptCalls.{mends_by_keeps, error_keeps, looks_by_keeps, mends_keeps, says, says_keeps, taken_keeps}
 use Rattle.lp_machine.proofs.ExpectedLists.{chosen, at_place, past_place}
 use Rattle.lp_machine.proofs.RecoveryChoice.{begins}
-use Rattle.lp_machine.proofs.TurnsMove.{EndsWith, EndsIn, Fits, Follows, Goes, Comes, Stops, before, asked, if_says, enters, at_state, listed, reduction_goes, top_number, below_numbers, one_number}
+use Rattle.lp_machine.proofs.TurnsMove.{EndsWith, EndsIn, Fits, Follows, Goes, Comes, before, halts, asked, if_says, enters, at_state, listed, reduction_goes, top_number, below_numbers, one_number}
 
 same_start : (l : Option driver.Lookahead) → driver.lookahead_start l ≡ lookahead_start (in_hand l)
 same_start None = refl
@@ -69,11 +70,6 @@ looks_lead t items c0 states =
     let b = begins t items c (length (map number_of states)) in
     (b.0, b.1 ∙ ap (looks_below t items c) (length-map states number_of))
 
--- a prefix with its error shifted, after what its trial says
-abbrev says : Tables → List RunItem → Config → ℕ → Option ℕ → Verdict → Config
-says t items c place None v = looks_below t items c place
-says t items c place (Some to) v = checked t items c place to v
-
 module _ (items : List RunItem) (w : Driver Value) (taken : ℕ) (rest : w.items ≡ drop taken items) (begin : w.begin ≡ Default) where
   abbrev here : TableDefinition → Recovering → Config
   here d r = stacks_of w d.calls taken r.lookahead (Some (mending_of r))
@@ -95,24 +91,25 @@ module _ (items : List RunItem) (w : Driver Value) (taken : ℕ) (rest : w.items
       let t = tables_in d in
       let c = here d r in
       let go = turn.reducing_by table_answers w r in
-      enters t items _ act d go
+      enters t items _ act d go (mends_by_keeps t items c act)
       (λ is. subst (λ a. Follows t items (mends_by t items c a) (go (pos 0) d)) (sym is) (on r ends d (looks t items c) (Trying r (length w.states)) (λ l e. e) (looks_lead t items c w.states)))
       (λ to is. subst (λ a. Follows t items (mends_by t items c a) (go (pos (suc to)) d)) (sym is) (on r ends d (looks t items c) (Trying r (length w.states)) (λ l e. e) (looks_lead t items c w.states)))
       (λ p is. subst (λ a. Follows t items (mends_by t items c a) (go (negsuc p) d)) (sym is)
-      (asked t items _ d.left d _ _ (λ k.
+      (asked t items _ d.left d _ _ (mends_by_keeps t items c (ReduceBy p)) (λ k.
       subst (λ start. Follows t items (reduces_or t items c (looks t items c) (reducible t items c p)) (driver.on_answer (reduce (pos p) start w.states w.symbols (with_steps d k)) (λ x d'. parsing.ends_or table_answers w (Reducing r) x x.ending d'))) (sym (same_start r.lookahead))
       (reduction_goes items w taken r.lookahead (Some (mending_of r)) (with_steps d k) (λ x d'. parsing.ends_or table_answers w (Reducing r) x x.ending d') (record {
         valued = λ calls value. Comes (Gives value) (with_calls (with_steps d k) calls) _ (0, refl) refl refl;
         failed = λ calls f. Comes (Fails f) (with_calls (with_steps d k) calls) _ (0, refl) refl refl;
         goes = λ calls states symbols. Goes _ (with_calls (with_steps d k) calls) taken refl (record { rest = rest; ends = ends; begin = begin })
             (0, ready_mending r.lookahead ends t (stacks_of (record w { states = states; symbols = symbols }) (d.calls ++ calls) taken r.lookahead (Some (mending_of r))) (mending_of r));
-      }) (looks t items c) p))))
+      }) (looks t items c) refl p))))
 
   pub reducing_goes : (r : Recovering) → EndsWith r.lookahead w.items → (d : TableDefinition) → Follows (tables_in d) items (asks_error (tables_in d) items (here d r)) (turn.reducing table_answers w r d)
   reducing_goes r ends d =
       let t = tables_in d in
-      at_state t items _ (last_of w.states) d _ (λ s top.
-      asked t items _ d.left d _ _ (λ k.
+      let same = error_keeps t items (here d r) in
+      at_state t items _ (last_of w.states) d _ same (λ s top.
+      asked t items _ d.left d _ _ same (λ k.
       subst (λ o. Follows t items (mends_by t items (here d r) (action_on_error t o)) (driver.on_answer (says_or_sticks (entry_of (action_on_error t (Some (number_of s)))) (with_steps d k)) (turn.reducing_by table_answers w r))) (sym (top_number w.states s top))
       (reducing_does r ends (with_steps d k) (action_on_error t (Some (number_of s))))))
 
@@ -124,7 +121,7 @@ module _ (items : List RunItem) (w : Driver Value) (taken : ℕ) (rest : w.items
       let t = tables_in d in
       let c = here d r in
       let go : ℤ → TableDefinition → Next Value TableDefinition = λ e d'. driver.Goes_on (turn.tried w r place (driver.shift_of e)) d' in
-      enters t items _ act d go
+      enters t items _ act d go (looks_by_keeps t items c place (shift_of act))
       (λ is. subst (λ a. Follows t items (looks_by t items c place (shift_of a)) (go (pos 0) d)) (sym is) (on r ends d (looks_below t items c place) (Trying r place) (λ l e. e) (0, refl)))
       (λ to is. subst (λ a. Follows t items (looks_by t items c place (shift_of a)) (go (pos (suc to)) d)) (sym is)
       (on r ends d (looks_by t items c place (Some to)) (Simulating r place (take (place + 1) w.states ++ pos to ∷ [])) (λ l e. e)
@@ -136,8 +133,8 @@ module _ (items : List RunItem) (w : Driver Value) (taken : ℕ) (rest : w.items
   place_goes r ends d place =
       let t = tables_in d in
       let c = here d r in
-      at_state t items _ (slice_get w.states place) d _ (λ s at.
-      asked t items _ d.left d _ _ (λ k.
+      at_state t items _ (slice_get w.states place) d _ refl (λ s at.
+      asked t items _ d.left d _ _ refl (λ k.
       let e = number_at w.states place s at in
       before t items _ (looks_by t items c place (shift_of (action_on_error t (Some (number_of s))))) _
       (suc zero, ap (λ o. looks_by t items c place (shift_of (action_on_error t o))) e)
@@ -160,7 +157,7 @@ module _ (items : List RunItem) (w : Driver Value) (taken : ℕ) (rest : w.items
       let c = here d r in
       let x : Value = Recovered (record { error = r.error; dropped = r.dropped }) in
       let at = lookahead_start (in_hand r.lookahead) in
-      asked t items _ d.left d _ _ (λ k.
+      asked t items _ d.left d _ _ (mends_keeps t items c (Some (mending_of r)) place to) (λ k.
       Goes _ (with_steps d k) taken refl (record { rest = rest; ends = tt; begin = begin }) (
         0,
         sym (ap (λ ns. ready t items (record c { states = ns; triples = take place w.symbols ++ turn.error_span table_answers w r place x ∷ []; mending = None })) (prefix_numbers (place + 1) to w.states)
@@ -175,7 +172,7 @@ module _ (items : List RunItem) (w : Driver Value) (taken : ℕ) (rest : w.items
       let t = tables_in d in
       let c = here d r in
       let go : ℤ → TableDefinition → Next Value TableDefinition = λ e d'. turn.mended_by table_answers w r place (driver.shift_of e) d' in
-      enters t items _ act d go
+      enters t items _ act d go (says_keeps t items c place (shift_of act) Yes)
       (λ is. subst (λ a. Follows t items (says t items c place (shift_of a) Yes) (go (pos 0) d)) (sym is) (on r ends d (looks_below t items c place) (Trying r place) (λ l e. e) (0, refl)))
       (λ to is. subst (λ a. Follows t items (says t items c place (shift_of a) Yes) (go (pos (suc to)) d)) (sym is) (mended_goes r d place to))
       (λ p is. subst (λ a. Follows t items (says t items c place (shift_of a) Yes) (go (negsuc p) d)) (sym is) (on r ends d (looks_below t items c place) (Trying r place) (λ l e. e) (0, refl)))
@@ -185,18 +182,19 @@ module _ (items : List RunItem) (w : Driver Value) (taken : ℕ) (rest : w.items
   served_at r ends d place =
       let t = tables_in d in
       let c = here d r in
-      at_state t items _ (slice_get w.states place) d _ (λ s at.
-      asked t items _ d.left d _ _ (λ k.
+      let same = says_keeps t items c place (error_shift t c place) Yes in
+      at_state t items _ (slice_get w.states place) d _ same (λ s at.
+      asked t items _ d.left d _ _ same (λ k.
       subst (λ o. Follows t items (says t items c place (shift_of (action_on_error t o)) Yes) (driver.on_answer (says_or_sticks (entry_of (action_on_error t (Some (number_of s)))) (with_steps d k)) (λ e d'. turn.mended_by table_answers w r place (driver.shift_of e) d'))) (sym (number_at w.states place s at))
       (served_does r ends (with_steps d k) place (action_on_error t (Some (number_of s))))))
 
-  served_or : (d : TableDefinition) (c : Config) (b : Bool) (next : Next Value TableDefinition) → Follows (tables_in d) items c next → Follows (tables_in d) items c (if b then driver.Halted Stuck d else next)
-  served_or d c true next h = Stops Stuck d
-  served_or d c false next h = h
+  served_or : (d : TableDefinition) (c : Config) → c.calls ≡ d.calls → (b : Bool) (next : Next Value TableDefinition) → Follows (tables_in d) items c next → Follows (tables_in d) items c (if b then driver.Halted Stuck d else next)
+  served_or d c same true next h = halts (tables_in d) items c Stuck d same
+  served_or d c same false next h = h
 
   served : (r : Recovering) → EndsWith r.lookahead w.items → (d : TableDefinition) (place : ℕ)
       → Follows (tables_in d) items (says (tables_in d) items (here d r) place (error_shift (tables_in d) (here d r) place) Yes) (turn.serves table_answers w r place d)
-  served r ends d place = served_or d _ (nat_lt (length w.symbols) place) _ (served_at r ends d place)
+  served r ends d place = served_or d _ (says_keeps (tables_in d) items (here d r) place (error_shift (tables_in d) (here d r) place) Yes) (nat_lt (length w.symbols) place) _ (served_at r ends d place)
 
   -- a trial of the lookahead on a stack
   no_below : (t : Tables) (c : Config) (place : ℕ) (o : Option ℕ) → says t items c place o No ≡ looks_below t items c place
@@ -222,12 +220,14 @@ module _ (items : List RunItem) (w : Driver Value) (taken : ℕ) (rest : w.items
       let c = here d r in
       let f = goes_on_leads t c place (error_shift t c place) (map number_of stack ++ n ∷ []) in
       on r ends d _ (Simulating r place (stack ++ pos n ∷ [])) (λ l e. e) (f.0, f.1 ∙ ap (λ ns. tries t items c place ns (error_shift t c place)) (sym (one_number stack n)))
-  goto_known r ends d place stack n false = Stops Stuck (with_stuck d)
+  goto_known r ends d place stack n false =
+      halts (tables_in d) items _ Stuck (with_stuck d) (says_keeps (tables_in d) items (here d r) place (error_shift (tables_in d) (here d r) place) (GoesOn (map number_of stack ++ n ∷ [])))
 
   goto_goes : (r : Recovering) → EndsWith r.lookahead w.items → (d : TableDefinition) (place : ℕ) (stack : List ℤ) (o : Option ℕ)
       → Follows (tables_in d) items (says (tables_in d) items (here d r) place (error_shift (tables_in d) (here d r) place) (pushed (tables_in d) (map number_of stack) o))
       (driver.on_answer (says_or_sticks (state_of o) d) (λ g d'. driver.Goes_on (with_mode w (Simulating r place (stack ++ g ∷ []))) d'))
-  goto_goes r ends d place stack None = Stops Stuck (with_stuck d)
+  goto_goes r ends d place stack None =
+      halts (tables_in d) items _ Stuck (with_stuck d) (says_keeps (tables_in d) items (here d r) place (error_shift (tables_in d) (here d r) place) No)
   goto_goes r ends d place stack (Some n) = goto_known r ends d place stack n (nat_lt n (2 ^ 31))
 
   reduced_goes : (r : Recovering) → EndsWith r.lookahead w.items → (d : TableDefinition) (place : ℕ) (stack : List ℤ) (rule : Rule) (b : Bool)
@@ -240,8 +240,9 @@ module _ (items : List RunItem) (w : Driver Value) (taken : ℕ) (rest : w.items
       let c = here d r in
       let keep = below rule.length stack in
       let go : ℤ → TableDefinition → Next Value TableDefinition = λ g d'. driver.Goes_on (with_mode w (Simulating r place (keep ++ g ∷ []))) d' in
-      served_or d _ (nat_lt (length stack) rule.length) _ (at_state t items _ (last_of keep) d _ (λ s top.
-      asked t items _ d.left d _ _ (λ k.
+      let same = says_keeps t items c place (error_shift t c place) (reduced_stack t (map number_of stack) rule) in
+      served_or d _ same (nat_lt (length stack) rule.length) _ (at_state t items _ (last_of keep) d _ same (λ s top.
+      asked t items _ d.left d _ _ same (λ k.
       let e : reduced_stack t (map number_of stack) rule ≡ pushed t (map number_of keep) (t.goto (number_of s) rule.nonterminal) = ap (λ ns. pushed t ns (goto_from t (last_of ns) rule.nonterminal)) (below_numbers rule.length stack)
       ∙ ap (λ o. pushed t (map number_of keep) (goto_from t o rule.nonterminal)) (top_number keep s top) in
       subst (λ v. Follows t items (says t items c place (error_shift t c place) v) (driver.on_answer (says_or_sticks (state_of (t.goto (number_of s) rule.nonterminal)) (with_steps d k)) go)) (sym e)
@@ -250,7 +251,8 @@ module _ (items : List RunItem) (w : Driver Value) (taken : ℕ) (rest : w.items
   rule_goes : (r : Recovering) → EndsWith r.lookahead w.items → (d : TableDefinition) (place : ℕ) (stack : List ℤ) (o : Option Rule)
       → Follows (tables_in d) items (says (tables_in d) items (here d r) place (error_shift (tables_in d) (here d r) place) (verdict_by_rule (tables_in d) (map number_of stack) o))
       (driver.on_answer (says_or_sticks (simulated_by o) d) (λ x d'. turn.simulated table_answers w r place stack x d'))
-  rule_goes r ends d place stack None = Stops Stuck (with_stuck d)
+  rule_goes r ends d place stack None =
+      halts (tables_in d) items _ Stuck (with_stuck d) (says_keeps (tables_in d) items (here d r) place (error_shift (tables_in d) (here d r) place) No)
   rule_goes r ends d place stack (Some rule) = reduced_goes r ends d place stack rule rule.is_start
 
   simulating_does : (r : Recovering) → EndsWith r.lookahead w.items → (d : TableDefinition) (place : ℕ) (stack : List ℤ) (act : Act)
@@ -261,14 +263,19 @@ module _ (items : List RunItem) (w : Driver Value) (taken : ℕ) (rest : w.items
       let c = here d r in
       let go : ℤ → TableDefinition → Next Value TableDefinition = λ e d'. turn.simulating_by table_answers w r place stack (driver.production_of e) (driver.shift_of e) d' in
       let from : Act → Config = λ a. says t items c place (error_shift t c place) (verdict_by t (map number_of stack) a) in
-      enters t items _ act d go
+      enters t items _ act d go (says_keeps t items c place (error_shift t c place) (verdict_by t (map number_of stack) act))
       (λ is. subst (λ a. Follows t items (from a) (go (pos 0) d)) (sym is) (unserved r ends d place))
       (λ to is. subst (λ a. Follows t items (from a) (go (pos (suc to)) d)) (sym is) (served r ends d place))
-      (λ p is. subst (λ a. Follows t items (from a) (go (negsuc p) d)) (sym is) (asked t items _ d.left d _ _ (λ k. rule_goes r ends (with_steps d k) place stack (t.rule p))))
+      (λ p is. subst (λ a. Follows t items (from a) (go (negsuc p) d)) (sym is)
+      (asked t items _ d.left d _ _ (says_keeps t items c place (error_shift t c place) (verdict_by t (map number_of stack) (ReduceBy p))) (λ k. rule_goes r ends (with_steps d k) place stack (t.rule p))))
 
   tries_says : (t : Tables) (c : Config) (place : ℕ) (stack : List ℕ) (o : Option ℕ) → tries t items c place stack o ≡ says t items c place o (verdict t stack (lookahead_terminal c.lookahead))
   tries_says t c place stack None = refl
   tries_says t c place stack (Some to) = refl
+
+  tries_keeps : (t : Tables) (items : List RunItem) (c : Config) (place : ℕ) (stack : List ℕ) (o : Option ℕ) → (tries t items c place stack o).calls ≡ c.calls
+  tries_keeps t items c place stack None = says_keeps t items c place None No
+  tries_keeps t items c place stack (Some to) = says_keeps t items c place (Some to) (verdict t stack (lookahead_terminal c.lookahead))
 
   asks_same : (l : Option driver.Lookahead) (s : ℤ) (d : TableDefinition)
       → turn.asks_action table_answers l s d ≡ step_from d.left d (λ d. says_or_sticks (entry_of (action_on (tables_in d) (Some (number_of s)) (lookahead_terminal (in_hand l)))) d)
@@ -282,12 +289,12 @@ module _ (items : List RunItem) (w : Driver Value) (taken : ℕ) (rest : w.items
       let c = here d r in
       let terminal = lookahead_terminal (in_hand r.lookahead) in
       let go : ℤ → TableDefinition → Next Value TableDefinition = λ e d'. turn.simulating_by table_answers w r place stack (driver.production_of e) (driver.shift_of e) d' in
-      at_state t items _ (last_of stack) d _ (λ s top.
+      at_state t items _ (last_of stack) d _ (tries_keeps t items c place (map number_of stack) (error_shift t c place)) (λ s top.
       let e : tries t items c place (map number_of stack) (error_shift t c place) ≡ says t items c place (error_shift t c place) (verdict_by t (map number_of stack) (action_on t (Some (number_of s)) terminal)) = tries_says t c place (map number_of stack) (error_shift t c place)
       ∙ ap (λ o. says t items c place (error_shift t c place) (verdict_by t (map number_of stack) (action_on t o terminal))) (top_number stack s top) in
       subst (λ x. Follows t items x (driver.on_answer (turn.asks_action table_answers r.lookahead s d) go)) (sym e)
       (subst (λ x. Follows t items (says t items c place (error_shift t c place) (verdict_by t (map number_of stack) (action_on t (Some (number_of s)) terminal))) (driver.on_answer x go)) (sym (asks_same r.lookahead s d))
-      (asked t items _ d.left d _ _ (λ k. simulating_does r ends (with_steps d k) place stack (action_on t (Some (number_of s)) terminal)))))
+      (asked t items _ d.left d _ _ (says_keeps t items c place (error_shift t c place) (verdict_by t (map number_of stack) (action_on t (Some (number_of s)) terminal))) (λ k. simulating_does r ends (with_steps d k) place stack (action_on t (Some (number_of s)) terminal)))))
 
   -- a token is dropped
   last_goes : (r : Recovering) → EndsWith r.lookahead w.items → r.lookahead ≡ None → (d : TableDefinition) (n : ℕ)
@@ -301,7 +308,7 @@ module _ (items : List RunItem) (w : Driver Value) (taken : ℕ) (rest : w.items
       → Follows (tables_in d) items (taken_after (tables_in d) items (record (stacks_of w d.calls taken None (Some (mending_of r))) { taken = taken + 1; last = token.2 }) token o)
       (parsing.taken table_answers (with_mode w (Trying r (length w.states))) more token o d)
   taken_goes r more after d token None =
-      listed items (record (stacks_of w d.calls taken None (Some (mending_of r))) { taken = taken + 1; last = token.2 }) w.states d (Some token) false _ (λ found k.
+      listed items (record (stacks_of w d.calls taken None (Some (mending_of r))) { taken = taken + 1; last = token.2 }) w.states d (Some token) false _ refl (λ found k.
       Comes (Fails (failure.UnrecognizedToken token found)) (with_steps d k) _ (0, refl) refl refl)
   taken_goes r more after d token (Some i) =
       let l : driver.Lookahead = record { token = token; index = i } in
@@ -313,7 +320,8 @@ module _ (items : List RunItem) (w : Driver Value) (taken : ℕ) (rest : w.items
       (parsing.pulled table_answers (with_mode w (Trying r (length w.states))) more (located_item (tables_in d).is_located next) d)
   drop_goes r more after d (item.Fault name) = Comes (Fails (failure.User (user.Fault name))) d _ (0, refl) refl refl
   drop_goes r more after d (item.Token a token b) =
-      asked (tables_in d) items _ d.left d _ _ (λ k.
+      let at = token_in (tables_in d) items a token b in
+      asked (tables_in d) items _ d.left d _ _ (taken_keeps (tables_in d) items (record (stacks_of w d.calls taken None (Some (mending_of r))) { taken = taken + 1; last = at.2 }) at ((tables_in d).terminal token)) (λ k.
       taken_goes r more after (with_steps d k) (token_in (tables_in d) items a token b) ((tables_in d).terminal token))
 
   dropping_goes : (r : Recovering) (l : driver.Lookahead) (d : TableDefinition) (more : List RunItem) → w.items ≡ more

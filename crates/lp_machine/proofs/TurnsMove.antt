@@ -40,6 +40,7 @@ use Rattle.lp_machine.specs.RunEnds.{ended}
 use Rattle.lp_machine.specs.TableAnswers.{number_of, entry_of, state_of, tables_in, with_steps, with_calls, with_stuck, sticks, or_sticks, step_from, says_or_sticks, or_spent, expected_by, goes_to, reduced_to, reduced_by, reduces_with, reduce_by, reduce, table_answers}
 use Rattle.lp_machine.specs.DriverStanding.{in_hand, mending_of, stacks_of, stands}
 use Rattle.lp_machine.proofs.MoreMoves.{Leads, then_leads}
+use Rattle.lp_machine.proofs.KeptCalls.{errs_by_keeps, errs_keeps, no_action_keeps, ready_keeps}
 use Rattle.lp_machine.proofs.ExpectedLists.{chosen, moves_try_names}
 
 -- at an error without a token in hand no item is left
@@ -63,12 +64,12 @@ pub record Fits (items : List RunItem) (w : Driver Value) (taken : ℕ) : Type 0
 pub data Follows (t : Tables) (items : List RunItem) (c : Config) : Next Value TableDefinition → Type 0 where
   Goes : (w : Driver Value) (d : TableDefinition) (taken : ℕ) → tables_in d ≡ t → Fits items w taken → Leads t items c (stands t items w d.calls taken) → Follows t items c (Goes_on w d)
   Comes : (e : Ending) (d : TableDefinition) (end : Config) → Leads t items c end → ended end.left ≡ Some e → end.calls ≡ d.calls → Follows t items c (Ends e d)
-  Stops : (why : Halt) (d : TableDefinition) → Follows t items c (Halted why d)
+  Stops : (why : Halt) (d : TableDefinition) (end : Config) → Leads t items c end → end.calls ≡ d.calls → Follows t items c (Halted why d)
 
 pub before : (t : Tables) (items : List RunItem) (a b : Config) (next : Next Value TableDefinition) → Leads t items a b → Follows t items b next → Follows t items a next
 before t items a b _ f (Goes w d taken same fits leads) = Goes w d taken same fits (then_leads t items a b _ f leads)
 before t items a b _ f (Comes e d end leads so calls) = Comes e d end (then_leads t items a b _ f leads) so calls
-before t items a b _ f (Stops why d) = Stops why d
+before t items a b _ f (Stops why d end leads calls) = Stops why d end (then_leads t items a b _ f leads) calls
 
 -- the top state by its number, and lists of numbers
 pub top_number : (states : List ℤ) (s : ℤ) → last_of states ≡ Some s → last_of (map number_of states) ≡ Some (number_of s)
@@ -82,28 +83,32 @@ pub one_number : (states : List ℤ) (n : ℕ) → map number_of (states ++ pos 
 one_number states n = map-append number_of states (pos n ∷ [])
 
 module _ (t : Tables) (items : List RunItem) (c : Config) where
+  -- the driver halts where the machine made the same calls
+  pub halts : (why : Halt) (d : TableDefinition) → c.calls ≡ d.calls → Follows t items c (Halted why d)
+  halts why d same = Stops why d c (0, refl) same
+
   -- a question that is a step
   pub asked : {A : Type 0} (n : ℕ) (d : TableDefinition) (f : TableDefinition → Said A TableDefinition) (go : A → TableDefinition → Next Value TableDefinition)
-      → ((k : ℕ) → Follows t items c (on_answer (f (with_steps d k)) go)) → Follows t items c (on_answer (step_from n d f) go)
-  asked zero d f go h = Stops Spent d
-  asked (suc k) d f go h = h k
+      → c.calls ≡ d.calls → ((k : ℕ) → Follows t items c (on_answer (f (with_steps d k)) go)) → Follows t items c (on_answer (step_from n d f) go)
+  asked zero d f go same h = halts Spent d same
+  asked (suc k) d f go same h = h k
 
   pub if_says : {A : Type 0} (b : Bool) (x : A) (d : TableDefinition) (go : A → TableDefinition → Next Value TableDefinition)
-      → Follows t items c (go x d) → Follows t items c (on_answer (says_or_sticks (if b then Some x else None) d) go)
-  if_says true x d go h = h
-  if_says false x d go h = Stops Stuck (with_stuck d)
+      → c.calls ≡ d.calls → Follows t items c (go x d) → Follows t items c (on_answer (says_or_sticks (if b then Some x else None) d) go)
+  if_says true x d go same h = h
+  if_says false x d go same h = halts Stuck (with_stuck d) same
 
   -- what a state does, as the driver takes it
   pub enters : (act : Act) (d : TableDefinition) (go : ℤ → TableDefinition → Next Value TableDefinition)
-      → (act ≡ NoAction → Follows t items c (go (pos 0) d)) → ((to : ℕ) → act ≡ Shift to → Follows t items c (go (pos (suc to)) d)) → ((p : ℕ) → act ≡ ReduceBy p → Follows t items c (go (negsuc p) d))
+      → c.calls ≡ d.calls → (act ≡ NoAction → Follows t items c (go (pos 0) d)) → ((to : ℕ) → act ≡ Shift to → Follows t items c (go (pos (suc to)) d)) → ((p : ℕ) → act ≡ ReduceBy p → Follows t items c (go (negsuc p) d))
       → Follows t items c (on_answer (says_or_sticks (entry_of act) d) go)
-  enters NoAction d go none shift reduce = none refl
-  enters (Shift to) d go none shift reduce = if_says (nat_lt to (2 ^ 31 - 1)) (pos (suc to)) d go (shift to refl)
-  enters (ReduceBy p) d go none shift reduce = if_says (nat_lt p (2 ^ 31)) (negsuc p) d go (reduce p refl)
+  enters NoAction d go same none shift reduce = none refl
+  enters (Shift to) d go same none shift reduce = if_says (nat_lt to (2 ^ 31 - 1)) (pos (suc to)) d go same (shift to refl)
+  enters (ReduceBy p) d go same none shift reduce = if_says (nat_lt p (2 ^ 31)) (negsuc p) d go same (reduce p refl)
 
-  pub at_state : (o : Option ℤ) (d : TableDefinition) (go : ℤ → Next Value TableDefinition) → ((s : ℤ) → o ≡ Some s → Follows t items c (go s)) → Follows t items c (with_state o d go)
-  at_state None d go h = Stops Stuck d
-  at_state (Some s) d go h = h s refl
+  pub at_state : (o : Option ℤ) (d : TableDefinition) (go : ℤ → Next Value TableDefinition) → c.calls ≡ d.calls → ((s : ℤ) → o ≡ Some s → Follows t items c (go s)) → Follows t items c (with_state o d go)
+  at_state None d go same h = halts Stuck d same
+  at_state (Some s) d go same h = h s refl
 
 module _ (items : List RunItem) (c0 : Config) (states : List ℤ) where
   abbrev c : Config
@@ -111,23 +116,24 @@ module _ (items : List RunItem) (c0 : Config) (states : List ℤ) where
 
   -- the expected list of an error
   tried_by : (d : TableDefinition) (token : Option (Spanned Token)) (mends : Bool) (go : List Text → TableDefinition → Next Value TableDefinition) (o : Option (List Text))
-      → names_tried (tables_in d) d.left (map number_of states) 0 (tables_in d).names ≡ o → ((found : List Text) → Follows (tables_in d) items (completes (tables_in d) items c (record { token = token; mends = mends; found = found })) (go found d))
+      → c0.calls ≡ d.calls → names_tried (tables_in d) d.left (map number_of states) 0 (tables_in d).names ≡ o → ((found : List Text) → Follows (tables_in d) items (completes (tables_in d) items c (record { token = token; mends = mends; found = found })) (go found d))
       → Follows (tables_in d) items (errs_by (tables_in d) items Trial c token mends) (on_answer (or_spent o d) go)
-  tried_by d token mends go None e h = Stops Spent (with_steps d 0)
-  tried_by d token mends go (Some found) e h =
+  tried_by d token mends go None same e h = halts (tables_in d) items _ Spent (with_steps d 0) (errs_by_keeps (tables_in d) items Trial c token mends ∙ same)
+  tried_by d token mends go (Some found) same e h =
       before (tables_in d) items _ _ (go found d) (moves_try_names (tables_in d) items d.left c (record { token = token; mends = mends; found = [] }) found e) (h found)
 
   listed_by : (e : Expecting) (d : TableDefinition) (token : Option (Spanned Token)) (mends : Bool) (go : List Text → TableDefinition → Next Value TableDefinition)
-      → ((found : List Text) → Follows (tables_in d) items (completes (tables_in d) items c (record { token = token; mends = mends; found = found })) (go found d))
+      → c0.calls ≡ d.calls → ((found : List Text) → Follows (tables_in d) items (completes (tables_in d) items c (record { token = token; mends = mends; found = found })) (go found d))
       → Follows (tables_in d) items (errs_by (tables_in d) items e c token mends) (on_answer (expected_by e (map number_of states) d) go)
-  listed_by Actions d token mends go h = h (names_with_action (tables_in d) (last_of (map number_of states)) 0 (tables_in d).names)
-  listed_by Trial d token mends go h = tried_by d token mends go (names_tried (tables_in d) d.left (map number_of states) 0 (tables_in d).names) refl h
+  listed_by Actions d token mends go same h = h (names_with_action (tables_in d) (last_of (map number_of states)) 0 (tables_in d).names)
+  listed_by Trial d token mends go same h = tried_by d token mends go (names_tried (tables_in d) d.left (map number_of states) 0 (tables_in d).names) same refl h
 
   pub listed : (d : TableDefinition) (token : Option (Spanned Token)) (mends : Bool) (go : List Text → TableDefinition → Next Value TableDefinition)
-      → ((found : List Text) (k : ℕ) → Follows (tables_in d) items (completes (tables_in d) items c (record { token = token; mends = mends; found = found })) (go found (with_steps d k)))
+      → c0.calls ≡ d.calls → ((found : List Text) (k : ℕ) → Follows (tables_in d) items (completes (tables_in d) items c (record { token = token; mends = mends; found = found })) (go found (with_steps d k)))
       → Follows (tables_in d) items (errs (tables_in d) items c token mends) (on_answer (table_answers (Expected states) d) go)
-  listed d token mends go h =
-      asked (tables_in d) items _ d.left d _ go (λ k. listed_by (tables_in d).expecting (with_steps d k) token mends go (λ found. h found k))
+  listed d token mends go same h =
+      asked (tables_in d) items _ d.left d _ go (errs_keeps (tables_in d) items c token mends ∙ same)
+      (λ k. listed_by (tables_in d).expecting (with_steps d k) token mends go same (λ found. h found k))
 
 -- the calls of a reduction are made one by one
 some_length : {A : Type 0} (x : A) (xs : List A) → (length (x ∷ xs) == 0) ≡ false
@@ -172,11 +178,13 @@ module _ (items : List RunItem) (w : Driver Value) (taken : ℕ) (l : Option dri
         let e : map number_of (below rule.length w.states ++ pos n ∷ []) ≡ below rule.length (map number_of w.states) ++ n ∷ [] = one_number (below rule.length w.states) n ∙ ap (λ ns. ns ++ n ∷ []) (sym (below_numbers rule.length w.states)) in
         subst (λ ns. Follows t items (ready t items (record (after calls) { states = ns; triples = reduced_triples (after calls) rule value })) (go (reduced_to rule (symbol_of rule value) w.states w.symbols (pos n)) (with_calls d calls))) e
         (ways.goes calls (below rule.length w.states ++ pos n ∷ []) (below rule.length w.symbols ++ symbol_of rule value ∷ []))
-    goto_known rule value calls n false = Stops Stuck (with_stuck (with_calls d calls))
+    goto_known rule value calls n false =
+        halts t items _ Stuck (with_stuck (with_calls d calls))
+        (ready_keeps t items (record (after calls) { states = below rule.length (map number_of w.states) ++ n ∷ []; triples = reduced_triples (after calls) rule value }))
 
     goto_goes : (rule : Rule) (value : Value) (calls : List Call) (o : Option ℕ)
         → Follows t items (reduces_to t items (after calls) rule value o) (on_answer (or_sticks (state_of o) (with_calls d calls) (λ to. Says (reduced_to rule (symbol_of rule value) w.states w.symbols to) (with_calls d calls))) go)
-    goto_goes rule value calls None = Stops Stuck (with_stuck (with_calls d calls))
+    goto_goes rule value calls None = halts t items _ Stuck (with_stuck (with_calls d calls)) (no_action_keeps t items (after calls))
     goto_goes rule value calls (Some n) = goto_known rule value calls n (nat_lt n (2 ^ 31))
 
     start_goes : (rule : Rule) (value : Value) (calls : List Call) (b : Bool)
@@ -194,21 +202,21 @@ module _ (items : List RunItem) (w : Driver Value) (taken : ℕ) (l : Option dri
     called_goes rule (Err f) calls = ways.failed calls f
     called_goes rule (Ok value) calls = start_goes rule value calls rule.is_start
 
-    fitting_goes : (otherwise : Config) (rule : Rule) (b : Bool)
+    fitting_goes : (otherwise : Config) → otherwise.calls ≡ d.calls → (rule : Rule) (b : Bool)
         → Follows t items (reduces_or t items (stacks_of w d.calls taken l m) otherwise (if b then None else Some rule))
         (on_answer (if b then sticks d else reduces_with rule (t.act rule.action (popped rule.length w.symbols) (at_lookahead, at_lookahead) (length d.calls)) at_lookahead w.states w.symbols d) go)
-    fitting_goes otherwise rule true = Stops Stuck (with_stuck d)
-    fitting_goes otherwise rule false =
+    fitting_goes otherwise same rule true = halts t items _ Stuck (with_stuck d) same
+    fitting_goes otherwise same rule false =
         let acted = t.act rule.action (popped rule.length w.symbols) (at_lookahead, at_lookahead) (length d.calls) in
         before t items _ _ _ (calls_lead t items (stacks_of w d.calls taken l m) rule acted.calls acted.result) (called_goes rule acted.result acted.calls)
 
-    rule_goes : (otherwise : Config) (o : Option Rule)
+    rule_goes : (otherwise : Config) → otherwise.calls ≡ d.calls → (o : Option Rule)
         → Follows t items (reduces_or t items (stacks_of w d.calls taken l m) otherwise (reducible_by t items (stacks_of w d.calls taken l m) o))
         (on_answer (or_sticks o d (λ rule. reduce_by rule (lookahead_start (in_hand l)) w.states w.symbols d)) go)
-    rule_goes otherwise None = Stops Stuck (with_stuck d)
-    rule_goes otherwise (Some rule) = fitting_goes otherwise rule (nat_lt (length w.symbols) rule.length)
+    rule_goes otherwise same None = halts t items _ Stuck (with_stuck d) same
+    rule_goes otherwise same (Some rule) = fitting_goes otherwise same rule (nat_lt (length w.symbols) rule.length)
 
-    pub reduction_goes : (otherwise : Config) (p : ℕ)
+    pub reduction_goes : (otherwise : Config) → otherwise.calls ≡ d.calls → (p : ℕ)
         → Follows t items (reduces_or t items (stacks_of w d.calls taken l m) otherwise (reducible t items (stacks_of w d.calls taken l m) p))
         (on_answer (reduce (pos p) (lookahead_start (in_hand l)) w.states w.symbols d) go)
-    reduction_goes otherwise p = rule_goes otherwise (t.rule p)
+    reduction_goes otherwise same p = rule_goes otherwise same (t.rule p)

@@ -58,12 +58,12 @@ module _ (t : Tables) (items : List RunItem) where
   stands w calls taken = stands_in w calls taken w.mode
 
   -- where a driver is after turns, there the machine comes by moves: it stands at the same place, or
-  -- it ended so with the same calls. A halt for want of steps, or over tables that no state, no goto
-  -- or no production fits, says nothing.
+  -- it ended so with the same calls. A driver may also halt for want of steps, or over tables that no
+  -- state, no goto or no production fits: then the machine comes to the same calls.
   abbrev pub ComesTo : Next Value TableDefinition → Type 0
   ComesTo (Goes_on w d) = (m : ℕ) × ((taken : ℕ) × (moves t items m (first t items) ≡ stands w d.calls taken))
   ComesTo (Ends e d) = (m : ℕ) × (ended (moves t items m (first t items)).left ≡ Some e) × ((moves t items m (first t items)).calls ≡ d.calls)
-  ComesTo (Halted why d) = Unit {0}
+  ComesTo (Halted why d) = (m : ℕ) × ((moves t items m (first t items)).calls ≡ d.calls)
 
 -- the turns of a driver over a definition by tables make the machine's moves
 abbrev pub TurnsMove : Type 0

@@ -20,7 +20,8 @@ pub fn recovery()
 
 /// The turns of a driver over a definition that answers by tables make the machine's moves, where
 /// errors are mended and where they are not: after any number of turns the machine comes to the same
-/// place, or to the same end with the same calls.
+/// place, or to the same end with the same calls. Where the driver halts, for want of steps or of an
+/// answer, the machine comes to the same calls.
 pub fn turns()
     ensures { TurnsMove }
 {}

@@ -5,3 +5,6 @@ pub mod Numbers
 pub mod TextParts
 pub mod ShownRows
 pub mod Joining
+pub mod TreeRows
+pub mod TreeTexts
+pub mod TreeFrees

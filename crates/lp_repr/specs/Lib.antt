@@ -14,3 +14,4 @@ pub mod TypeOrder
 pub mod ShownTypes
 pub mod ShownValues
 pub mod ShownItems
+pub mod TypeTrees

@@ -2,6 +2,7 @@
 #![tactic(auto)]
 
 pub mod consts;
+mod copies;
 pub mod escaped;
 mod free_variables;
 mod joined;

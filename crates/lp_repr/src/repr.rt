@@ -170,7 +170,7 @@ pub struct TokenPattern {
 }
 
 /// A type of Rust.
-#[derive(Clone, Debug, PartialEq, Eq, PartialOrd, Ord, Drop)]
+#[derive(Debug, PartialEq, Eq, PartialOrd, Ord, Drop)]
 #[cycle(types)]
 pub enum TypeRepr {
     Tuple(Vec<TypeRepr>),
@@ -196,7 +196,7 @@ pub enum TypeRepr {
 }
 
 /// A path with its arguments.
-#[derive(Clone, Debug, PartialEq, Eq, PartialOrd, Ord, Drop)]
+#[derive(Debug, PartialEq, Eq, PartialOrd, Ord, Drop)]
 #[cycle(types)]
 pub struct NominalTypeRepr {
     pub path: Path,
@@ -204,7 +204,7 @@ pub struct NominalTypeRepr {
 }
 
 /// One bound of a type or a lifetime.
-#[derive(Clone, Debug, PartialEq, Eq, Drop)]
+#[derive(Debug, PartialEq, Eq, Drop)]
 pub enum WhereClause {
     Forall {
         binder: Vec<TypeParameter>,

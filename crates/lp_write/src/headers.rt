@@ -1,8 +1,9 @@
 //! Headers of functions.
 
 ghost use Rattle.std.specs.Prelude.{◌≡◌, ℕ, List, [], ◌∷◌, ◌++◌, map, IfOk, OnOk, OnErr, Some, string_bytes, codes};
+ghost use Rattle.std.specs.Borrow.{sem};
 ghost use Rattle.std.specs.List.{AllZip};
-ghost use Rattle.lp_write.specs.Headers.{header, header_under, writer_of, empty_header, listed, opening, closing, where_lines, parameter_lines, header_lines, AddsGrammar};
+ghost use Rattle.lp_write.specs.Headers.{header, header_of, visibility_of, writer_of, empty_header, listed, opening, closing, where_lines, parameter_lines, header_lines, AddsGrammar, RestsIfRefused};
 ghost use Rattle.lp_write.specs.Lines.Line.{line};
 ghost use Rattle.lp_write.specs.Texts.{IsShownAs, AreShownAs};
 ghost use Rattle.lp_write.specs.Writes.{writing, Writes, write_ending};
@@ -15,7 +16,7 @@ use lp_repr::repr::{Grammar, Parameter};
 use std::alloc::{AllocError, Global};
 use std::fmt::Display;
 
-/// What a header shows.
+/// The texts of a header.
 #[derive(Drop)]
 pub struct HeaderTexts {
     alloc: Global,
@@ -29,9 +30,9 @@ pub struct HeaderTexts {
 /// The header of a function, up to and without the `{` of its body. It is made of a name, and lists
 /// are added to it. A call that finds no memory for them lets the header go with nothing written.
 #[derive(Drop)]
-pub struct FnHeader<'me, W, T = HeaderTexts> {
+pub struct FnHeader<'me, W, V = &'me Visibility, T = HeaderTexts> {
     write: &'me mut RustWrite<W>,
-    visibility: &'me Visibility,
+    visibility: V,
     texts: T,
 }
 
@@ -45,7 +46,8 @@ impl<'me, W: Sink> FnHeader<'me, W> {
     ) -> Self
         ensures same_reference { (writer_of result).ghost_name ≡ write.entry.ghost_name }
         ensures same_writer { (writer_of result).now ≡ write.old }
-        ensures header { header result ≡ empty_header visibility.now (string_bytes name) }
+        ensures same_visibility { (visibility_of result).now ≡ visibility.now }
+        ensures header { header result ≡ empty_header (string_bytes name) }
     {
         FnHeader {
             write,
@@ -61,64 +63,9 @@ impl<'me, W: Sink> FnHeader<'me, W> {
         }
     }
 
-    /// Adds the type parameters, the where clauses and the parameters of the grammar.
-    pub fn with_grammar(self, grammar: &Grammar) -> Result<Self, AllocError>
-        ensures same_reference { IfOk result (λ h. (writer_of h).ghost_name ≡ (writer_of self.entry).ghost_name) }
-        ensures same_writer { IfOk result (λ h. (writer_of h).now ≡ (writer_of self.entry).now) }
-        ensures added { IfOk result (AddsGrammar ⟦<lp_repr::repr::WhereClause as Display>⟧.output ⟦<Parameter as ParameterDisplay>⟧.IsParameterText grammar.now (header self.entry)) }
-    {
-        self.with_type_parameters(grammar.type_parameters.as_slice())?
-            .with_where_clauses(grammar.where_clauses.as_slice())?
-            .with_parameters(grammar.parameters.as_slice())
-    }
-
-    /// Adds type parameters; lifetimes have to come first.
-    pub fn with_type_parameters<T: Display>(mut self, tps: &[T]) -> Result<Self, AllocError>
-        ensures same_reference { IfOk result (λ h. (writer_of h).ghost_name ≡ (writer_of self.entry).ghost_name) }
-        ensures same_writer { IfOk result (λ h. (writer_of h).now ≡ (writer_of self.entry).now) }
-        ensures added { IfOk result (λ h. (texts : List (List ℕ)) × AreShownAs T.output tps.now texts × (header h ≡ record (header self.entry) { type_parameters = (header self.entry).type_parameters ++ texts })) }
-    {
-        push_shown(self.texts.alloc, &mut self.texts.type_parameters, tps)?;
-        Ok(self)
-    }
-
-    /// Adds where clauses.
-    pub fn with_where_clauses<T: Display>(mut self, wcs: &[T]) -> Result<Self, AllocError>
-        ensures same_reference { IfOk result (λ h. (writer_of h).ghost_name ≡ (writer_of self.entry).ghost_name) }
-        ensures same_writer { IfOk result (λ h. (writer_of h).now ≡ (writer_of self.entry).now) }
-        ensures added { IfOk result (λ h. (texts : List (List ℕ)) × AreShownAs T.output wcs.now texts × (header h ≡ record (header self.entry) { where_clauses = (header self.entry).where_clauses ++ texts })) }
-    {
-        push_shown(self.texts.alloc, &mut self.texts.where_clauses, wcs)?;
-        Ok(self)
-    }
-
-    /// Adds parameters.
-    pub fn with_parameters<P: ParameterDisplay>(
-        mut self,
-        parameters: &[P],
-    ) -> Result<Self, AllocError>
-        ensures same_reference { IfOk result (λ h. (writer_of h).ghost_name ≡ (writer_of self.entry).ghost_name) }
-        ensures same_writer { IfOk result (λ h. (writer_of h).now ≡ (writer_of self.entry).now) }
-        ensures added { IfOk result (λ h. (texts : List (List ℕ)) × AllZip P.IsParameterText parameters.now texts × (header h ≡ record (header self.entry) { parameters = (header self.entry).parameters ++ texts })) }
-    {
-        push_parameters(self.texts.alloc, &mut self.texts.parameters, parameters)?;
-        Ok(self)
-    }
-
-    /// Sets the type that the function answers.
-    pub fn with_return_type<R: Display>(mut self, rt: &R) -> Result<Self, AllocError>
-        ensures same_reference { IfOk result (λ h. (writer_of h).ghost_name ≡ (writer_of self.entry).ghost_name) }
-        ensures same_writer { IfOk result (λ h. (writer_of h).now ≡ (writer_of self.entry).now) }
-        ensures set { IfOk result (λ h. (text : List ℕ) × IsShownAs (R.output rt.now) text × (header h ≡ record (header self.entry) { return_type = Some text })) }
-    {
-        let texts = &mut self.texts;
-        texts.return_type = Some(Text(rt.to_string(texts.alloc)?));
-        Ok(self)
-    }
-
     /// Appends the header.
     pub fn emit(self) -> Result<(), WriteError>
-        ensures { Writes (write_ending result) (writing W.told (writer_of self.entry).now) (writing W.told self.exit.0.now) (map line (header_lines (header self.entry))) }
+        ensures { Writes (write_ending result) (writing W.told (writer_of self.entry).now) (writing W.told self.exit.0.now) (map line (header_lines (visibility_of self.entry).now (header self.entry))) }
     {
         let FnHeader {
             write,
@@ -127,6 +74,131 @@ impl<'me, W: Sink> FnHeader<'me, W> {
         } = self;
         write.write_lines(header_lines(visibility, &texts))
     }
+}
+
+impl<'me, W: Sink, V: Drop> FnHeader<'me, W, V> {
+    /// Adds the type parameters, the where clauses and the parameters of the grammar.
+    pub fn with_grammar(self, grammar: &Grammar) -> Result<Self, AllocError>
+        ensures* refused { sem 𝓛 (RestsIfRefused W.row self.entry result) }
+        ensures same_reference { IfOk result (λ h. (writer_of h).ghost_name ≡ (writer_of self.entry).ghost_name) }
+        ensures same_writer { IfOk result (λ h. (writer_of h).now ≡ (writer_of self.entry).now) }
+        ensures same_visibility { IfOk result (λ h. visibility_of h ≡ visibility_of self.entry) }
+        ensures added { IfOk result (λ h. AddsGrammar ⟦<lp_repr::repr::WhereClause as Display>⟧.output ⟦<Parameter as ParameterDisplay>⟧.IsParameterText grammar.now (header self.entry) (header h)) }
+    {
+        let FnHeader {
+            write,
+            visibility,
+            mut texts,
+        } = self;
+        push_grammar(&mut texts, grammar)?;
+        Ok(FnHeader {
+            write,
+            visibility,
+            texts,
+        })
+    }
+
+    /// Adds type parameters; lifetimes have to come first.
+    pub fn with_type_parameters<T: Display>(self, tps: &[T]) -> Result<Self, AllocError>
+        ensures* refused { sem 𝓛 (RestsIfRefused W.row self.entry result) }
+        ensures same_reference { IfOk result (λ h. (writer_of h).ghost_name ≡ (writer_of self.entry).ghost_name) }
+        ensures same_writer { IfOk result (λ h. (writer_of h).now ≡ (writer_of self.entry).now) }
+        ensures same_visibility { IfOk result (λ h. visibility_of h ≡ visibility_of self.entry) }
+        ensures added { IfOk result (λ h. (texts : List (List ℕ)) × AreShownAs T.output tps.now texts × (header h ≡ record (header self.entry) { type_parameters = (header self.entry).type_parameters ++ texts })) }
+    {
+        let FnHeader {
+            write,
+            visibility,
+            mut texts,
+        } = self;
+        push_shown(texts.alloc, &mut texts.type_parameters, tps)?;
+        Ok(FnHeader {
+            write,
+            visibility,
+            texts,
+        })
+    }
+
+    /// Adds where clauses.
+    pub fn with_where_clauses<T: Display>(self, wcs: &[T]) -> Result<Self, AllocError>
+        ensures* refused { sem 𝓛 (RestsIfRefused W.row self.entry result) }
+        ensures same_reference { IfOk result (λ h. (writer_of h).ghost_name ≡ (writer_of self.entry).ghost_name) }
+        ensures same_writer { IfOk result (λ h. (writer_of h).now ≡ (writer_of self.entry).now) }
+        ensures same_visibility { IfOk result (λ h. visibility_of h ≡ visibility_of self.entry) }
+        ensures added { IfOk result (λ h. (texts : List (List ℕ)) × AreShownAs T.output wcs.now texts × (header h ≡ record (header self.entry) { where_clauses = (header self.entry).where_clauses ++ texts })) }
+    {
+        let FnHeader {
+            write,
+            visibility,
+            mut texts,
+        } = self;
+        push_shown(texts.alloc, &mut texts.where_clauses, wcs)?;
+        Ok(FnHeader {
+            write,
+            visibility,
+            texts,
+        })
+    }
+
+    /// Adds parameters.
+    pub fn with_parameters<P: ParameterDisplay>(self, parameters: &[P]) -> Result<Self, AllocError>
+        ensures* refused { sem 𝓛 (RestsIfRefused W.row self.entry result) }
+        ensures same_reference { IfOk result (λ h. (writer_of h).ghost_name ≡ (writer_of self.entry).ghost_name) }
+        ensures same_writer { IfOk result (λ h. (writer_of h).now ≡ (writer_of self.entry).now) }
+        ensures same_visibility { IfOk result (λ h. visibility_of h ≡ visibility_of self.entry) }
+        ensures added { IfOk result (λ h. (texts : List (List ℕ)) × AllZip P.IsParameterText parameters.now texts × (header h ≡ record (header self.entry) { parameters = (header self.entry).parameters ++ texts })) }
+    {
+        let FnHeader {
+            write,
+            visibility,
+            mut texts,
+        } = self;
+        push_parameters(texts.alloc, &mut texts.parameters, parameters)?;
+        Ok(FnHeader {
+            write,
+            visibility,
+            texts,
+        })
+    }
+
+    /// Sets the type that the function answers.
+    pub fn with_return_type<R: Display>(self, rt: &R) -> Result<Self, AllocError>
+        ensures* refused { sem 𝓛 (RestsIfRefused W.row self.entry result) }
+        ensures same_reference { IfOk result (λ h. (writer_of h).ghost_name ≡ (writer_of self.entry).ghost_name) }
+        ensures same_writer { IfOk result (λ h. (writer_of h).now ≡ (writer_of self.entry).now) }
+        ensures same_visibility { IfOk result (λ h. visibility_of h ≡ visibility_of self.entry) }
+        ensures set { IfOk result (λ h. (text : List ℕ) × IsShownAs (R.output rt.now) text × (header h ≡ record (header self.entry) { return_type = Some text })) }
+    {
+        let FnHeader {
+            write,
+            visibility,
+            mut texts,
+        } = self;
+        texts.return_type = Some(Text(rt.to_string(texts.alloc)?));
+        Ok(FnHeader {
+            write,
+            visibility,
+            texts,
+        })
+    }
+}
+
+/// Adds the lists of a grammar.
+fn push_grammar(texts: &mut HeaderTexts, grammar: &Grammar) -> Result<(), AllocError>
+    ensures { OnOk result (AddsGrammar ⟦<lp_repr::repr::WhereClause as Display>⟧.output ⟦<Parameter as ParameterDisplay>⟧.IsParameterText grammar.now (header_of texts.old) (header_of texts.new)) }
+{
+    let alloc = texts.alloc;
+    push_shown(
+        alloc,
+        &mut texts.type_parameters,
+        grammar.type_parameters.as_slice(),
+    )?;
+    push_shown(
+        alloc,
+        &mut texts.where_clauses,
+        grammar.where_clauses.as_slice(),
+    )?;
+    push_parameters(alloc, &mut texts.parameters, grammar.parameters.as_slice())
 }
 
 /// Adds the texts that values are shown as.
@@ -159,7 +231,7 @@ fn push_parameters<P: ParameterDisplay>(
 
 /// The lines of a header.
 fn header_lines(visibility: &Visibility, texts: &HeaderTexts) -> Result<Vec<Text>, AllocError>
-    ensures { IfOk result (λ lines. lines.items ≡ header_lines (header_under visibility.now texts.now)) }
+    ensures { IfOk result (λ lines. lines.items ≡ header_lines visibility.now (header_of texts.now)) }
 {
     let alloc = texts.alloc;
     let mut lines = parameter_lines(visibility, texts)?;
@@ -170,7 +242,7 @@ fn header_lines(visibility: &Visibility, texts: &HeaderTexts) -> Result<Vec<Text
 
 /// The lines up to the parameters.
 fn parameter_lines(visibility: &Visibility, texts: &HeaderTexts) -> Result<Vec<Text>, AllocError>
-    ensures { IfOk result (λ lines. lines.items ≡ parameter_lines (header_under visibility.now texts.now)) }
+    ensures { IfOk result (λ lines. lines.items ≡ parameter_lines visibility.now (header_of texts.now)) }
 {
     let alloc = texts.alloc;
     let mut lines = Vec::new(alloc);

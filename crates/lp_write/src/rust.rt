@@ -4,7 +4,7 @@ ghost use Rattle.std.specs.Prelude.{◌≡◌, ℕ, ◌+◌, ◌-◌, ◌<◌, �
 ghost use Rattle.lp_write.specs.Sinks.{Took, Broke};
 ghost use Rattle.lp_write.specs.Lines.{closes, opens, lowered, raised, blanks, indented};
 ghost use Rattle.lp_write.specs.Lines.Line.{line, verbatim};
-ghost use Rattle.lp_write.specs.Headers.{header, writer_of, empty_header};
+ghost use Rattle.lp_write.specs.Headers.{header, visibility_of, writer_of, empty_header};
 ghost use Rattle.lp_write.specs.Rows.{row_text, AreEntryTexts};
 ghost use Rattle.lp_write.specs.Uses.{standard_uses, all_uses};
 ghost use Rattle.lp_write.specs.Writes.{sink_of, indent_of, options_of, writing, Writes, ending, write_ending};
@@ -324,7 +324,8 @@ impl<W: Sink> RustWrite<W> {
     ) -> FnHeader<'me, W>
         ensures same_reference { (writer_of result).ghost_name ≡ self.entry.ghost_name }
         ensures same_writer { (writer_of result).now ≡ self.old }
-        ensures header { header result ≡ empty_header visibility.now (string_bytes name) }
+        ensures same_visibility { (visibility_of result).now ≡ visibility.now }
+        ensures header { header result ≡ empty_header (string_bytes name) }
     {
         FnHeader::new(alloc, self, visibility, name)
     }

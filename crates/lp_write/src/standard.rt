@@ -1,6 +1,6 @@
 //! Standard input and output: the trusted edge.
 
-ghost use Rattle.std.specs.Prelude.{◌≡◌, ℕ, ◌<◌, ◌≤◌, List, [], length, take, Some, IfOk, OnErr};
+ghost use Rattle.std.specs.Prelude.{◌≡◌, ℕ, ◌<◌, ◌≤◌, List, [], length, take, Some, IfOk, OnOk, OnErr};
 ghost use Rattle.std.specs.Io.KnownBytes.{ReadConsumes, WriteAppends};
 ghost use Rattle.lp_write.specs.Sinks.{counted, Rose, Took, Refused, preceded};
 ghost use Rattle.lp_write.specs.Standard.{reader_of, failed_reads, writer_below, failed_writes, untold, only_faults};
@@ -40,6 +40,8 @@ impl<R: Read> Source for StdinSource<R> {
         ensures kept { OnErr result (untold ≡ untold) }
         ensures never_falls { failed_reads self.old ≤ failed_reads self.new }
         ensures rose { OnErr result (Rose (failed_reads self.old) (failed_reads self.new)) }
+        ensures quiet { OnOk result (failed_reads self.new ≡ failed_reads self.old) }
+        ensures counts { OnErr result (failed_reads self.new ≡ counted (failed_reads self.old)) }
         ensures passed_on { ReadConsumes (R.remaining (reader_of self.old)) (R.remaining (reader_of self.new)) result buf.new }
     {
         match self.reader.read(buf) {
@@ -87,6 +89,8 @@ impl<W: Write> Sink for StdoutSink<W> {
         ensures moves { IfOk result (λ n. 0 < length piece.now → 0 < n) }
         ensures took { IfOk result (λ n. Took (only_faults (failed_writes self.old)) (only_faults (failed_writes self.new)) (take n piece.now)) }
         ensures refused { OnErr result (Refused (only_faults (failed_writes self.old)) (only_faults (failed_writes self.new))) }
+        ensures quiet { OnOk result (failed_writes self.new ≡ failed_writes self.old) }
+        ensures counts { OnErr result (failed_writes self.new ≡ counted (failed_writes self.old)) }
         ensures passed_on { WriteAppends (W.contents (writer_below self.old)) (W.contents (writer_below self.new)) result piece.now }
     {
         match self.writer.write(piece) {

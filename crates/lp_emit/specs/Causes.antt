@@ -1,0 +1,95 @@
+-- Why nothing is emitted, in the order of the causes, and what a sink then holds.
+use Rattle.std.specs.Prelude.{◌≡◌, ℕ, ◌<◌, ◌≤◌, true, false, List, [], length, min, max, fold}
+use Rattle.lp_repr.specs.Numbering.{productions_of}
+use Rattle.lp_repr.specs.declared.lr1.StartStates.{StartStates}
+use Rattle.lp_repr.specs.declared.repr.Grammar.{Grammar}
+use Rattle.lp_repr.specs.declared.repr.LrCodeGeneration.TheVariants.{TestAll, RecursiveAscent}
+use Rattle.lp_valid.specs.Refusals.{RefusesGrammar}
+use Rattle.lp_valid.specs.ValidGrammar.{IsValidGrammar}
+use Rattle.lp_valid.specs.declared.grammars.GrammarFault.TheVariants.{Rule}
+use Rattle.lp_write.specs.Sinks.{Told, Broke}
+use Rattle.lp_emit.specs.Clashes.{HasNoClash, IsLeastClash}
+use Rattle.lp_emit.specs.Lists.{AreListed, IsTableFailure}
+use Rattle.lp_emit.specs.declared.errors.EmitError.{EmitError}
+use Rattle.lp_emit.specs.declared.errors.EmitError.TheVariants.{NoStart, Unsupported, BadGrammar, RecoveryInAscent, NameClash, TooMany, BadTables, BadText, WriteFault, Memory}
+
+-- there is no start
+abbrev pub HasNoStart : Grammar → Type 0
+HasNoStart g = g.start_nonterminals.entries ≡ []
+
+-- the code of all back ends is asked for
+abbrev pub AsksForAll : Grammar → Type 0
+AsksForAll g = g.algorithm.codegen ≡ TestAll
+
+-- recursive ascent is asked for
+abbrev pub IsByAscent : Grammar → Type 0
+IsByAscent g = g.algorithm.codegen ≡ RecursiveAscent
+
+-- the greatest of a number and of the lengths of some lists of states
+abbrev pub greatest_of : ℕ → List StartStates → ℕ
+greatest_of n states = fold (λ most list. max most (length list.states)) n states
+
+-- what the integers that number states have to hold: the productions, counted up to the greatest number,
+-- and the states of each start
+abbrev pub greatest_count : Grammar → List StartStates → ℕ
+greatest_count g states = greatest_of (min (length (productions_of g)) 18446744073709551615) states
+
+-- there are more states of a start, or more productions, than there are such numbers
+abbrev pub HasTooMany : Grammar → List StartStates → ℕ → Type 0
+HasTooMany g states count = (count ≡ greatest_count g states) × (2147483647 < count)
+
+-- there is a start, and the code of one back end is asked for
+abbrev pub IsSupported : Grammar → Type 0
+IsSupported g = (¬ HasNoStart g) × (¬ AsksForAll g)
+
+-- and the grammar is valid
+abbrev pub IsSound : Grammar → Type 0
+IsSound g = IsSupported g × IsValidGrammar g
+
+-- where recursive ascent is asked for, there is no recovery, and no two nonterminals have one escaped
+-- name
+abbrev pub SuitsAscent : Grammar → Type 0
+SuitsAscent g = IsByAscent g → (g.uses_error_recovery ≡ false) × HasNoClash g
+
+-- the counts fit
+abbrev pub CountsFit : Grammar → List StartStates → Type 0
+CountsFit g states = greatest_count g states ≤ 2147483647
+
+-- none of the causes before those of tables and texts holds
+pub record IsBuildable (g : Grammar) (states : List StartStates) : Type 0 where
+  pub sound : IsSound g
+  pub by_ascent : SuitsAscent g
+  pub counts : CountsFit g states
+
+-- none of the causes that are stated holds
+pub record MayBeEmitted (g : Grammar) (states : List StartStates) : Type 0 where
+  pub buildable : IsBuildable g states
+  pub listed : AreListed g states
+
+-- what each refusal tells of the grammar and its states: its cause, and that no earlier one holds
+abbrev pub Refuses : Grammar → List StartStates → EmitError → Type 0
+Refuses g states NoStart = HasNoStart g
+Refuses g states Unsupported = (¬ HasNoStart g) × AsksForAll g
+Refuses g states (BadGrammar rule place) = IsSupported g × RefusesGrammar g (Rule rule place)
+Refuses g states RecoveryInAscent = IsSound g × IsByAscent g × (g.uses_error_recovery ≡ true)
+Refuses g states (NameClash first second) = IsSound g × IsByAscent g × (g.uses_error_recovery ≡ false) × IsLeastClash g first second
+Refuses g states (TooMany count) = IsSound g × SuitsAscent g × HasTooMany g states count
+Refuses g states (BadTables start state rule) = IsBuildable g states × IsTableFailure g states start state rule
+Refuses g states (BadText place byte) = MayBeEmitted g states
+Refuses g states WriteFault = ⊥
+Refuses g states Memory = Unit {0}
+
+-- a refusal whatever the states are
+abbrev pub RefusesAlways : Grammar → EmitError → Type 0
+RefusesAlways g error = (states : List StartStates) → Refuses g states error
+
+-- why a text is not written: its cause, or a fault of the sink where no cause that is stated holds
+abbrev pub RefusesToWrite : Grammar → List StartStates → EmitError → Type 0
+RefusesToWrite g states WriteFault = MayBeEmitted g states
+RefusesToWrite g states error = Refuses g states error
+
+-- what a sink tells after a refusal: of some text a part was appended and its count rose, else nothing
+-- changed
+abbrev pub AfterRefusal : Told → Told → EmitError → Type 0
+AfterRefusal old new WriteFault = (text : List ℕ) × Broke old new text
+AfterRefusal old new error = new ≡ old

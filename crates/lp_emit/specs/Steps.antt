@@ -1,0 +1,28 @@
+-- What single steps of the checks refuse.
+use Rattle.std.specs.Prelude.{◌≡◌, ℕ, List, length}
+use Rattle.lp_repr.specs.declared.lr1.Lr1State.{Lr1State}
+use Rattle.lp_repr.specs.declared.lr1.StartStates.{StartStates}
+use Rattle.lp_repr.specs.declared.repr.Grammar.{Grammar}
+use Rattle.lp_valid.specs.Refusals.{NamesTableRule}
+use Rattle.lp_valid.specs.declared.tables.TableFault.TheVariants.{Rule}
+use Rattle.lp_emit.specs.Lists.{IsTableFailure}
+use Rattle.lp_emit.specs.declared.errors.EmitError.{EmitError}
+use Rattle.lp_emit.specs.declared.errors.EmitError.TheVariants.{BadTables, BadText, Memory}
+
+-- the tables of a start
+abbrev pub RefusesStates : ℕ → List Lr1State → EmitError → Type 0
+RefusesStates start states (BadTables named state rule) = (named ≡ start) × NamesTableRule (length states) (Rule rule state)
+RefusesStates start states Memory = Unit {0}
+RefusesStates start states error = ⊥
+
+-- the lists of states
+abbrev pub RefusesLists : Grammar → List StartStates → EmitError → Type 0
+RefusesLists g states (BadTables start state rule) = IsTableFailure g states start state rule
+RefusesLists g states Memory = Unit {0}
+RefusesLists g states error = ⊥
+
+-- the texts
+abbrev pub IsOfTexts : EmitError → Type 0
+IsOfTexts (BadText place byte) = Unit {0}
+IsOfTexts Memory = Unit {0}
+IsOfTexts error = ⊥
