@@ -9,7 +9,7 @@ use Rattle.std.proofs.lemmas.Bool.{cases_lt, lt-ltb}
 use Rattle.lp_repr.specs.declared.repr.Symbol.{Symbol}
 use Rattle.lp_lower.specs.Extents.{capped, extent_of, joined}
 use Rattle.lp_lower.specs.RightSides.{are_too_many}
-use Rattle.lp_lower.specs.declared.expand.Extent.{Extent}
+use Rattle.lp_lower.specs.declared.extents.Extent.{Extent}
 
 sum_by-cons : {X : Type 0} (f : X → ℕ) (x : X) (xs : List X) → sum_by f (x ∷ xs) ≡ f x + sum_by f xs
 sum_by-cons f x xs = let e = sum_by-append f (x ∷ []) xs in omega (arith, e)

@@ -44,7 +44,7 @@ or_false : (b c : Bool) → (b || (c || false)) ≡ (b || c)
 or_false b true = refl
 or_false b false = refl
 
-or_assoc : (a b c : Bool) → (a || (b || c)) ≡ ((a || b) || c)
+pub or_assoc : (a b c : Bool) → (a || (b || c)) ≡ ((a || b) || c)
 or_assoc true b c = refl
 or_assoc false b c = refl
 

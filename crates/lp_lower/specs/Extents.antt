@@ -2,7 +2,7 @@
 use Rattle.std.specs.Prelude.{ℕ, ◌-◌, ◌^◌, ◌++◌, min, List, map, length, sum_by}
 use Rattle.std.specs.List.{flat_map}
 use Rattle.lp_repr.specs.declared.repr.Symbol.{Symbol}
-use Rattle.lp_lower.specs.declared.expand.Extent.{Extent}
+use Rattle.lp_lower.specs.declared.extents.Extent.{Extent}
 
 -- a number, or the greatest one where it is greater
 abbrev pub capped : ℕ → ℕ

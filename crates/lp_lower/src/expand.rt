@@ -1,223 +1,321 @@
-//! How much an expansion gives: `@L`, `@R` and inline rules are replaced in every combination.
+//! How alternatives are expanded, and how many actions they have.
 
-ghost use Rattle.std.specs.Prelude.{◌≡◌, [], ◌∷◌, ◌++◌, if◌then◌else◌, List, IfOk, Some, map, slice_index_or};
-ghost use Rattle.lp_repr.specs.declared.repr.Symbol.TheVariants.{Nonterminal};
+ghost use Rattle.std.specs.Prelude.{◌≡◌, ◌++◌, if◌then◌else◌, IfOk, OnOk, Some, [], ◌∷◌, map, slice_index_or};
+ghost use Rattle.lp_lower.specs.ActionNumbers.{action_count, actions_in, is_replaced, is_replaced_target};
+ghost use Rattle.lp_lower.specs.Expansion.{combined, expanded, expanded_all, expanded_from, lookaround, options, rule_pieces, sources, terminal_pieces};
+ghost use Rattle.lp_lower.specs.Extents.{extent_of};
+ghost use Rattle.lp_lower.specs.Framing.{frame_of};
+ghost use Rattle.lp_lower.specs.Naming.{target};
+ghost use Rattle.lp_lower.specs.Pieces.{pieces_of};
+ghost use Rattle.lp_lower.specs.RightSides.{inline_sides};
 ghost use Rattle.lp_lower.specs.declared.names.Target.TheVariants.{Rule};
-ghost use Rattle.lp_repr.specs.declared.repr.Symbol.{Symbol};
-ghost use Rattle.lp_lower.specs.Extents.{extent_of, joined};
-ghost use Rattle.lp_lower.specs.RightSides.{rule_options, terminal_options, side_options, right_sides, rule_sides, inline_sides, sides_with_start, are_too_many, too_many};
 
+use crate::combine::{Combination, Expanded, Part, combinations};
+use crate::extents::{Extent, alternative_extent};
+use crate::frame::Frame;
 use crate::names::{Names, Target};
-use crate::plain::{PlainAlternative, PlainRule};
+use crate::plain::{PlainAlternative, PlainKind, PlainRule};
+use crate::refusals::is_inline;
+use lp_repr::repr::{Symbol, TerminalString};
+use lp_repr::text::Items;
 use std::alloc::{AllocError, Global};
 
-/// The most alternatives of all expanded rules together.
-const MOST_ALTERNATIVES: usize = 65_536;
-
-/// The most symbols of all expanded rules together.
-const MOST_SYMBOLS: usize = 1_048_576;
-
-/// How many expanded alternatives there are, and how many symbols they have together. A number
-/// that would pass the greatest one stays there.
-#[derive(Clone, Copy, Debug, PartialEq, Eq)]
-pub struct Extent {
-    pub alternatives: usize,
-    pub symbols: usize,
+/// What `@L`, `@R` and inline rules are replaced by.
+#[derive(Drop)]
+pub struct Sources {
+    pub lookahead: Items<Expanded>,
+    pub lookbehind: Items<Expanded>,
+    /// Of each rule so far; none of one that isn't inline.
+    pub inlines: Items<Items<Expanded>>,
 }
 
-impl Extent {
-    pub const NONE: Extent = Extent {
-        alternatives: 0,
-        symbols: 0,
-    };
-
-    /// One alternative of no symbols.
-    pub const EMPTY: Extent = Extent {
-        alternatives: 1,
-        symbols: 0,
-    };
-
-    /// One alternative of one symbol.
-    pub const ONE: Extent = Extent {
-        alternatives: 1,
-        symbols: 1,
-    };
-
-    /// Of these alternatives and those.
-    pub fn plus(self, other: Extent) -> Extent
-        ensures { (a : List (List Symbol)) → (b : List (List Symbol)) → self ≡ extent_of a → other ≡ extent_of b → result ≡ extent_of (a ++ b) }
+impl Sources {
+    /// The expanded alternatives of the rule of this number.
+    fn inline(&self, number: usize) -> &[Expanded]
+        ensures { result.now ≡ slice_index_or self.now.inlines number [] }
     {
-        Extent {
-            alternatives: self.alternatives.saturating_add(other.alternatives),
-            symbols: self.symbols.saturating_add(other.symbols),
+        match self.inlines.as_slice().get(number) {
+            None => &[],
+            Some(expanded) => expanded.as_slice(),
         }
     }
-
-    /// Of each of these alternatives followed by each of those.
-    pub fn times(self, other: Extent) -> Extent
-        ensures { (a : List (List Symbol)) → (b : List (List Symbol)) → self ≡ extent_of a → other ≡ extent_of b → result ≡ extent_of (joined a b) }
-    {
-        let left = self.symbols.saturating_mul(other.alternatives);
-        let right = other.symbols.saturating_mul(self.alternatives);
-        Extent {
-            alternatives: self.alternatives.saturating_mul(other.alternatives),
-            symbols: left.saturating_add(right),
-        }
-    }
-
-    /// More than all rules may have together.
-    pub fn is_too_large(self) -> bool
-        ensures { (sides : List (List Symbol)) → self ≡ extent_of sides → result ≡ are_too_many sides }
-    {
-        self.alternatives > MOST_ALTERNATIVES || self.symbols > MOST_SYMBOLS
-    }
 }
 
-/// The extents of the inline rules, none for other rules. Each inline rule uses only inline rules
-/// above it.
-pub fn inline_extents(alloc: Global, names: &Names<'_>) -> Result<Vec<Extent>, AllocError>
-    ensures { IfOk result (λ v. v.items ≡ map extent_of (inline_sides names.now.plain.now)) }
-{
-    let mut extents = Vec::new(alloc);
-    for rule in names.plain.rules.as_slice() {
-        let extent = inline_extent(names, extents.as_slice(), rule);
-        extents.push(extent)?;
-    }
-    Ok(extents)
-}
-
-/// The extent of an inline rule, none of another rule.
-#[tactic(auto, unfolding(crate::specs::Extents::extent_of))]
-fn inline_extent(names: &Names<'_>, inlines: &[Extent], rule: &PlainRule) -> Extent
-    ensures { (sides : List (List (List Symbol))) → inlines.now ≡ map extent_of sides → result ≡ extent_of (if rule.now.inline then rule_sides names.now.plain.now sides rule.now else []) }
-{
-    if rule.inline {
-        rule_extent(names, inlines, rule)
-    } else {
-        Extent::NONE
-    }
-}
-
-/// The extent of a rule, by those of the inline rules that it uses.
-#[tactic(auto, unfolding(crate::specs::Extents::extent_of))]
-fn rule_extent(names: &Names<'_>, inlines: &[Extent], rule: &PlainRule) -> Extent
-    ensures { (sides : List (List (List Symbol))) → inlines.now ≡ map extent_of sides → result ≡ extent_of (rule_sides names.now.plain.now sides rule.now) }
-{
-    let mut extent = Extent::NONE;
-    for alternative in rule.alternatives.as_slice() {
-        extent = extent.plus(alternative_extent(names, inlines, alternative));
-    }
-    extent
-}
-
-/// The extent of an alternative.
-pub fn alternative_extent(
+/// What may stand in the place of a symbol.
+fn part<'s>(
     names: &Names<'_>,
-    inlines: &[Extent],
-    alternative: &PlainAlternative,
-) -> Extent
-    ensures { (sides : List (List (List Symbol))) → inlines.now ≡ map extent_of sides → result ≡ extent_of (right_sides names.now.plain.now sides alternative.now) }
-{
-    let symbols = alternative.symbols.as_slice();
-    let mut extent = Extent::EMPTY;
-    let mut place = symbols.len();
-    while place > 0 {
-        place -= 1;
-        let target = names.target(&symbols[place].kind);
-        extent = target_extent(names, inlines, target).times(extent);
-    }
-    extent
-}
-
-/// The extent of what may stand in the place of a symbol.
-#[tactic(auto, unfolding(crate::specs::Extents::extent_of))]
-fn target_extent(names: &Names<'_>, inlines: &[Extent], target: Option<Target>) -> Extent
-    ensures { (sides : List (List (List Symbol))) → inlines.now ≡ map extent_of sides → result ≡ extent_of (side_options names.now.plain.now sides target) }
+    sources: &'s Sources,
+    target: Option<Target>,
+) -> Result<Part<'s>, AllocError>
+    ensures { IfOk result (λ p. pieces_of p ≡ options names.now.plain.now sources.entry.now target) }
 {
     match target {
-        None => Extent::NONE,
-        Some(Target::Rule(number)) => rule_option_extent(names, inlines, number),
-        Some(Target::Terminal(number)) => terminal_extent(names, number),
-        Some(Target::Lookahead) => Extent::EMPTY,
-        Some(Target::Lookbehind) => Extent::EMPTY,
-        Some(Target::Error) => Extent::ONE,
+        None => Ok(Part::Options(&[])),
+        Some(Target::Rule(number)) => rule_part(names, sources, number),
+        Some(Target::Terminal(number)) => terminal_part(names, number),
+        Some(Target::Lookahead) => Ok(Part::Options(sources.lookahead.as_slice())),
+        Some(Target::Lookbehind) => Ok(Part::Options(sources.lookbehind.as_slice())),
+        Some(Target::Error) => Ok(Part::Itself(Symbol::Terminal(TerminalString::Error))),
     }
 }
 
-/// Of the rule of this number, which stands for itself where it isn't inline.
-#[tactic(auto, unfolding(crate::specs::Extents::extent_of))]
-fn rule_option_extent(names: &Names<'_>, inlines: &[Extent], number: usize) -> Extent
-    ensures { (sides : List (List (List Symbol))) → inlines.now ≡ map extent_of sides → result ≡ extent_of (side_options names.now.plain.now sides (Some (Rule number))) }
+/// What may stand in the place of the rule of this number.
+fn rule_part<'s>(
+    names: &Names<'_>,
+    sources: &'s Sources,
+    number: usize,
+) -> Result<Part<'s>, AllocError>
+    ensures { IfOk result (λ p. pieces_of p ≡ options names.now.plain.now sources.entry.now (Some (Rule number))) }
 {
     match names.rule(number) {
-        None => Extent::NONE,
-        Some(rule) => option_extent(rule, extent_at(inlines, number)),
+        None => Ok(Part::Options(&[])),
+        Some(rule) => one_rule_part(rule, sources.inline(number)),
     }
 }
 
-/// Of a rule, by the extent of its right sides.
-#[tactic(auto, unfolding(crate::specs::Extents::extent_of))]
-fn option_extent(rule: &PlainRule, extent: Extent) -> Extent
-    ensures { (sides : List (List Symbol)) → extent ≡ extent_of sides → result ≡ extent_of (rule_options rule.now sides) }
+/// What may stand in the place of this rule.
+fn one_rule_part<'s>(rule: &PlainRule, expanded: &'s [Expanded]) -> Result<Part<'s>, AllocError>
+    ensures { IfOk result (λ p. pieces_of p ≡ rule_pieces rule.now expanded.entry.now) }
 {
-    if rule.inline { extent } else { Extent::ONE }
-}
-
-/// The extent of this number.
-#[tactic(auto, unfolding(crate::specs::Extents::extent_of))]
-fn extent_at(extents: &[Extent], number: usize) -> Extent
-    ensures { result ≡ slice_index_or extents.now number (extent_of []) }
-{
-    match extents.get(number) {
-        None => Extent::NONE,
-        Some(extent) => *extent,
+    if rule.inline {
+        Ok(Part::Options(expanded))
+    } else {
+        Ok(Part::Itself(Symbol::Nonterminal(rule.name.clone()?)))
     }
 }
 
-/// Of the terminal of this number.
-#[tactic(auto, unfolding(crate::specs::Extents::extent_of))]
-fn terminal_extent(names: &Names<'_>, number: usize) -> Extent
-    ensures { result ≡ extent_of (terminal_options names.now.plain.now number) }
+/// The terminal of this number.
+fn terminal_part<'s>(names: &Names<'_>, number: usize) -> Result<Part<'s>, AllocError>
+    ensures { IfOk result (λ p. pieces_of p ≡ terminal_pieces names.now.plain.now number) }
 {
     match names.terminal(number) {
-        None => Extent::NONE,
-        Some(_) => Extent::ONE,
+        None => Ok(Part::Options(&[])),
+        Some(terminal) => Ok(Part::Itself(Symbol::Terminal(terminal.name.clone()?))),
     }
 }
 
-/// The place of the first rule with which the expanded rules are too many.
-#[tactic(auto, unfolding(crate::specs::Extents::extent_of))]
-pub fn too_many(names: &Names<'_>, inlines: &[Extent]) -> Option<usize>
-    requires { inlines.now ≡ map extent_of (inline_sides names.now.plain.now) }
-    ensures { result ≡ too_many names.now.plain.now }
+/// What may stand in the place of each symbol of an alternative.
+fn parts<'s>(
+    alloc: Global,
+    names: &Names<'_>,
+    sources: &'s Sources,
+    alternative: &PlainAlternative,
+) -> Result<Vec<Part<'s>>, AllocError>
+    ensures { IfOk result (λ v. map pieces_of v.items ≡ map (λ s. options names.now.plain.now sources.entry.now (target names.now.plain.now s.kind)) alternative.now.symbols) }
 {
-    let mut extent = Extent::NONE;
-    for rule in names.plain.rules.as_slice() {
-        extent = extent.plus(extent_with_start(names, inlines, rule));
-        if extent.is_too_large() {
-            return Some(rule.place);
+    let mut parts = Vec::new(alloc);
+    for symbol in alternative.symbols.as_slice() {
+        parts.push(part(names, sources, names.target(&symbol.kind))?)?;
+    }
+    Ok(parts)
+}
+
+/// The combinations of an alternative.
+#[tactic(auto, unfolding(crate::specs::Expansion::combined))]
+pub fn combined(
+    alloc: Global,
+    names: &Names<'_>,
+    sources: &Sources,
+    alternative: &PlainAlternative,
+) -> Result<Vec<Combination>, AllocError>
+    ensures { IfOk result (λ v. v.items ≡ combined names.now.plain.now sources.now alternative.now) }
+{
+    let parts = parts(alloc, names, sources, alternative)?;
+    combinations(alloc, alternative.fallible, parts.as_slice())
+}
+
+/// Whether something in an alternative is replaced.
+pub fn is_replaced(names: &Names<'_>, alternative: &PlainAlternative) -> bool
+    ensures { result ≡ is_replaced names.now.plain.now alternative.now }
+{
+    for symbol in alternative.symbols.as_slice() {
+        if is_replaced_kind(names, &symbol.kind) {
+            return true;
         }
     }
-    None
+    false
 }
 
-/// The extent of a rule, and of its start where it is public.
-#[tactic(auto, unfolding(crate::specs::Extents::extent_of))]
-fn extent_with_start(names: &Names<'_>, inlines: &[Extent], rule: &PlainRule) -> Extent
-    requires { inlines.now ≡ map extent_of (inline_sides names.now.plain.now) }
-    ensures { result ≡ extent_of (sides_with_start names.now.plain.now rule.now) }
+/// Whether a symbol is replaced.
+fn is_replaced_kind(names: &Names<'_>, kind: &PlainKind) -> bool
+    ensures { result ≡ is_replaced_target names.now.plain.now (target names.now.plain.now kind.now) }
 {
-    rule_extent(names, inlines, rule).plus(start_extent(rule))
+    match names.target(kind) {
+        None => false,
+        Some(Target::Rule(number)) => is_inline(names.plain.rules.as_slice(), number),
+        Some(Target::Terminal(_)) => false,
+        Some(Target::Lookahead) => true,
+        Some(Target::Lookbehind) => true,
+        Some(Target::Error) => false,
+    }
 }
 
-/// The extent of the start of a public rule, none of another rule.
-#[tactic(auto, unfolding(crate::specs::Extents::extent_of))]
-fn start_extent(rule: &PlainRule) -> Extent
-    ensures { result ≡ extent_of (if rule.now.public then (Nonterminal rule.now.name ∷ []) ∷ [] else []) }
+/// How many actions an alternative has: its user action, and an inline per combination where
+/// something is replaced.
+pub fn action_count(
+    names: &Names<'_>,
+    extents: &[Extent],
+    alternative: &PlainAlternative,
+) -> Result<usize, AllocError>
+    requires { extents.now ≡ map extent_of (inline_sides names.now.plain.now) }
+    ensures { IfOk result (λ n. n ≡ action_count names.now.plain.now alternative.now) }
 {
-    if rule.public {
-        Extent::ONE
+    if is_replaced(names, alternative) {
+        // A count past the greatest usize stays there, and more can't be added to it.
+        let count = alternative_extent(names, extents, alternative).alternatives;
+        count.checked_add(1).ok_or(AllocError)
     } else {
-        Extent::NONE
+        Ok(1)
+    }
+}
+
+/// How many actions these alternatives have.
+pub fn actions_in(
+    names: &Names<'_>,
+    extents: &[Extent],
+    alternatives: &[PlainAlternative],
+) -> Result<usize, AllocError>
+    requires { extents.now ≡ map extent_of (inline_sides names.now.plain.now) }
+    ensures { IfOk result (λ n. n ≡ actions_in names.now.plain.now alternatives.now) }
+{
+    let mut count: usize = 0;
+    for alternative in alternatives {
+        let more = action_count(names, extents, alternative)?;
+        count = count.checked_add(more).ok_or(AllocError)?;
+    }
+    Ok(count)
+}
+
+/// Adds the expanded alternatives of an alternative whose user action has this number.
+fn push_expanded(
+    alloc: Global,
+    names: &Names<'_>,
+    sources: &Sources,
+    user: usize,
+    alternative: &PlainAlternative,
+    all: &mut Items<Expanded>,
+) -> Result<(), AllocError>
+    ensures { OnOk result (all.new ≡ all.old ++ expanded names.now.plain.now sources.now user alternative.now) }
+{
+    let combinations = combined(alloc, names, sources, alternative)?;
+    let first = if is_replaced(names, alternative) {
+        user.checked_add(1).ok_or(AllocError)?
+    } else {
+        user
+    };
+    push_numbered(first, combinations, all)
+}
+
+/// Adds these combinations as expanded alternatives, whose actions begin with this number.
+fn push_numbered(
+    first: usize,
+    combinations: Vec<Combination>,
+    all: &mut Items<Expanded>,
+) -> Result<(), AllocError>
+    ensures { OnOk result (all.new ≡ all.old ++ expanded_from first combinations.items) }
+{
+    let mut action = first;
+    for combination in combinations {
+        let Combination {
+            inlined: _,
+            fallible,
+            symbols,
+        } = combination;
+        all.0.push(Expanded {
+            action,
+            fallible,
+            symbols,
+        })?;
+        action = action.checked_add(1).ok_or(AllocError)?;
+    }
+    Ok(())
+}
+
+/// The expanded alternatives of these alternatives, whose actions begin with this number.
+pub fn expanded_all(
+    alloc: Global,
+    names: &Names<'_>,
+    extents: &[Extent],
+    sources: &Sources,
+    first: usize,
+    alternatives: &[PlainAlternative],
+) -> Result<Items<Expanded>, AllocError>
+    requires { extents.now ≡ map extent_of (inline_sides names.now.plain.now) }
+    ensures { IfOk result (λ e. e ≡ expanded_all names.now.plain.now sources.now first alternatives.now) }
+{
+    let mut all = Items::new(alloc);
+    let mut user = first;
+    for alternative in alternatives {
+        push_expanded(alloc, names, sources, user, alternative, &mut all)?;
+        let count = action_count(names, extents, alternative)?;
+        user = user.checked_add(count).ok_or(AllocError)?;
+    }
+    Ok(all)
+}
+
+/// What `@L`, `@R` and the inline rules are replaced by. Each inline rule uses only inline rules
+/// above it.
+pub fn make_sources(
+    alloc: Global,
+    names: &Names<'_>,
+    extents: &[Extent],
+    frame: Frame,
+) -> Result<Sources, AllocError>
+    requires counted { extents.now ≡ map extent_of (inline_sides names.now.plain.now) }
+    requires framed { frame ≡ frame_of names.now.plain.now }
+    ensures { IfOk result (λ s. s ≡ sources names.now.plain.now) }
+{
+    let mut sources = Sources {
+        lookahead: lookaround(alloc, frame.lookahead)?,
+        lookbehind: lookaround(alloc, frame.lookbehind)?,
+        inlines: Items::new(alloc),
+    };
+    let mut first = frame.first;
+    for rule in names.plain.rules.as_slice() {
+        let expanded = inline_expanded(alloc, names, extents, &sources, first, rule)?;
+        sources.inlines.0.push(expanded)?;
+        let count = actions_in(names, extents, rule.alternatives.as_slice())?;
+        first = first.checked_add(count).ok_or(AllocError)?;
+    }
+    Ok(sources)
+}
+
+/// A lookaround of this action.
+fn lookaround(alloc: Global, action: usize) -> Result<Items<Expanded>, AllocError>
+    ensures { IfOk result (λ e. e ≡ lookaround action ∷ []) }
+{
+    let mut one = Items::new(alloc);
+    one.0.push(Expanded {
+        action,
+        fallible: false,
+        symbols: Items::new(alloc),
+    })?;
+    Ok(one)
+}
+
+/// The expanded alternatives of an inline rule, whose actions begin with this number; none of
+/// another rule.
+fn inline_expanded(
+    alloc: Global,
+    names: &Names<'_>,
+    extents: &[Extent],
+    sources: &Sources,
+    first: usize,
+    rule: &PlainRule,
+) -> Result<Items<Expanded>, AllocError>
+    requires { extents.now ≡ map extent_of (inline_sides names.now.plain.now) }
+    ensures { IfOk result (λ e. e ≡ (if rule.now.inline then expanded_all names.now.plain.now sources.now first rule.now.alternatives else [])) }
+{
+    if rule.inline {
+        expanded_all(
+            alloc,
+            names,
+            extents,
+            sources,
+            first,
+            rule.alternatives.as_slice(),
+        )
+    } else {
+        Ok(Items::new(alloc))
     }
 }
