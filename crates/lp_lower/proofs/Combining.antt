@@ -1,11 +1,12 @@
 -- Combinations by their number: the digits choose, the first slowest.
 use Rattle.std.proofs.Common.{◌≡◌, ℕ, ◌+◌, ◌-◌, ◌*◌, ◌/◌, ◌%◌, ◌^◌, ◌<◌, ◌≤◌, zero, suc, min, Bool, ◌||◌, List, [], ◌∷◌, ◌++◌, length, map, take, drop, Option, None, Some, refl, sym, ap, ◌∙◌, arith, append_assoc, append-nil, length-append, ⊎_elim}
 use Rattle.std.proofs.Math.ListN.{get_or}
-use Rattle.std.proofs.Math.Nat.{mul-le-mul, mul-zero, zero-mul}
+use Rattle.std.proofs.Math.Nat.{mul-le-mul, mul-zero, zero-mul, mul-div_cancel_left}
 use Rattle.std.specs.List.{slice_get, flat_map, list_any}
 use Rattle.std.specs.Option.{option_map}
 use Rattle.std.proofs.lemmas.Bool.{cases_lt}
-use Rattle.std.proofs.lemmas.List.{length-map, map-append, take_more, drop_more}
+use Rattle.std.proofs.lemmas.Nat.{div_below, div-add-mod'}
+use Rattle.std.proofs.lemmas.List.{length-map, map-append, take_more, drop_more, drop_all}
 use Rattle.std.proofs.lemmas.List.Concat.{flat_map-append}
 use Rattle.std.proofs.lemmas.Option.{slice_get-map, slice_get_within, get_or_from_slice_get}
 use Rattle.lp_repr.specs.declared.repr.InlinedSymbol.{InlinedSymbol}
@@ -87,3 +88,80 @@ combination_of-push fallible pieces x =
     ap (λ i. combination i (fallible || list_any piece_fails (pieces ++ x ∷ [])) (flat_map piece_symbols (pieces ++ x ∷ []))) inlined
     ∙ (ap (λ b. combination (map piece_inlined pieces ++ piece_inlined x ∷ []) b (flat_map piece_symbols (pieces ++ x ∷ []))) fails
     ∙ ap (combination (map piece_inlined pieces ++ piece_inlined x ∷ []) ((fallible || list_any piece_fails pieces) || piece_fails x)) symbols)
+
+pos_left : (m n left : ℕ) → left < m * n → 0 < m
+pos_left zero n left h = let e = zero-mul n in absurd (omega (arith, e))
+pos_left (suc m) n left h = omega arith
+
+pos_right : (m n left : ℕ) → left < m * n → 0 < n
+pos_right m zero left h = let e = mul-zero m in absurd (omega (arith, e))
+pos_right m (suc n) left h = omega arith
+
+-- what is left of a number of m * n things, and of one of them
+pub record Digits (m n count left : ℕ) : Type 0 where
+  pub some : 0 < m
+  pub others : 0 < n
+  pub rest : count / m ≡ n
+  pub digit : left / n < m
+
+pub digits : (m n count left : ℕ) → count ≡ m * n → left < count → Digits m n count left
+digits m n count left e h =
+    let less : left < m * n = omega (arith, e) in
+    let some = pos_left m n left less in
+    let others = pos_right m n left less in
+    record { some = some; others = others; rest = ap (λ k. k / m) e ∙ mul-div_cancel_left n some; digit = div_below left n m others less }
+
+-- the number of the choices from a part on, by its options
+pub choices_from : {X : Type 0} (xss : List (List X)) (i : ℕ) (o : List X) → i < length xss → get_or xss i o ≡ o → length (choices (drop i xss)) ≡ length o * length (choices (drop (i + 1) xss))
+choices_from xss i o h at = ap (λ l. length (choices l)) (drop_more xss i o h ∙ ap (λ y. y ∷ drop (i + 1) xss) at) ∙ length-choices o (drop (i + 1) xss)
+
+some_at : {X : Type 0} (xs : List X) (i : ℕ) → i < length xs → (x : X) × (slice_get xs i ≡ Some x)
+some_at [] i h = absurd (omega arith)
+some_at (x ∷ xs) zero h = (x, refl)
+some_at (x ∷ xs) (suc i) h = some_at xs i (omega arith)
+
+-- the pieces that a combination has after the parts before this one, and how those to come complete them
+pub record IsSoFar (fallible : Bool) (xss : List (List Piece)) (place i count left : ℕ) (c : Combination) : Type 0 where
+  pub pieces : List Piece
+  pub made : c ≡ combination_of fallible pieces
+  pub counted : count ≡ length (choices (drop i xss))
+  pub within : left < count
+  pub completed : (rest : List Piece) → slice_get (choices (drop i xss)) left ≡ Some rest → slice_get (choices xss) place ≡ Some (pieces ++ rest)
+
+pub so_far_more : (fallible : Bool) (xss : List (List Piece)) (place i count left : ℕ) (c : Combination) (o : List Piece) → i < length xss → get_or xss i o ≡ o → IsSoFar fallible xss place i count left c → (m next q r : ℕ) (d : Combination) → m ≡ length o → next ≡ count / m → q ≡ left / next → r ≡ left % next → ((x : Piece) → slice_get o q ≡ Some x → d ≡ with_piece c x) → IsSoFar fallible xss place (i + 1) next r d
+so_far_more fallible xss place i count left c o h at was m next q r d size count_is q_is r_is adds =
+    let later = choices (drop (i + 1) xss) in
+    let n = length later in
+    let e : drop i xss ≡ o ∷ drop (i + 1) xss = drop_more xss i o h ∙ ap (λ y. y ∷ drop (i + 1) xss) at in
+    let two = digits (length o) n count left (was.counted ∙ choices_from xss i o h at) was.within in
+    let same : next ≡ n = count_is ∙ (ap (λ k. count / k) size ∙ two.rest) in
+    let q_at : q ≡ left / n = q_is ∙ ap (λ k. left / k) same in
+    let r_at : r ≡ left % n = r_is ∙ ap (λ k. left % k) same in
+    let found = some_at o q (let less : left / n < length o = two.digit in omega (arith, q_at)) in
+    let x = found.0 in
+    let whole : left ≡ q * n + r = sym (ap (λ k. k * n + r) q_at ∙ (ap (λ k. left / n * n + k) r_at ∙ div-add-mod' left n)) in
+    let positive : 0 < n = two.others in
+    record {
+      pieces = was.pieces ++ x ∷ [];
+      made = adds x found.1 ∙ (ap (λ k. with_piece k x) was.made ∙ sym (combination_of-push fallible was.pieces x));
+      counted = same;
+      within = omega (arith, r_at, same);
+      completed = λ rest g.
+          was.completed (x ∷ rest) (ap (λ l. slice_get (choices l) left) e ∙ (ap (slice_get (choices (o ∷ drop (i + 1) xss))) whole ∙ choice_at o later q r x rest found.1 g))
+          ∙ ap (λ l. Some l) (sym (append_assoc was.pieces (x ∷ []) rest));
+    }
+
+-- before the first part
+pub so_far_none : (fallible : Bool) (xss : List (List Piece)) (place total : ℕ) (c : Combination) → c ≡ combination_of fallible [] → total ≡ length (choices xss) → place < total → IsSoFar fallible xss place 0 total place c
+so_far_none fallible xss place total c made counted within = record { pieces = []; made = made; counted = counted; within = within; completed = λ rest g. g }
+
+-- after the last one
+pub so_far_all : (fallible : Bool) (xss : List (List Piece)) (place i count left : ℕ) (c : Combination) → length xss ≤ i → IsSoFar fallible xss place i count left c → slice_get (map (combination_of fallible) (choices xss)) place ≡ Some c
+so_far_all fallible xss place i count left c h was =
+    let none : drop i xss ≡ [] = drop_all i xss h in
+    let one : count ≡ 1 = was.counted ∙ ap (λ l. length (choices l)) none in
+    let zeroth : left ≡ 0 = let less : left < count = was.within in omega (arith, one) in
+    let last : slice_get (choices (drop i xss)) left ≡ Some [] = ap (λ l. slice_get (choices l) left) none ∙ ap (slice_get (choices [])) zeroth in
+    slice_get-map (combination_of fallible) (choices xss) place
+    ∙ (ap (option_map (combination_of fallible)) (was.completed [] last)
+    ∙ (ap (λ l. Some (combination_of fallible l)) (append-nil was.pieces) ∙ ap (λ k. Some k) (sym was.made)))

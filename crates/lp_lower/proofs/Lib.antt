@@ -6,3 +6,4 @@ pub mod OrderSteps
 pub mod Putting
 pub mod RepeatSteps
 pub mod SideSteps
+pub mod Walking

@@ -34,7 +34,7 @@ start_data g action r = record { visibility = visibility_of r; productions = rec
 -- the starts of the public rules among these, the first of which has this action
 abbrev pub start_entries : PlainGrammar → ℕ → List PlainRule → List (NonterminalString × NonterminalData)
 start_entries g action [] = []
-start_entries g action (r ∷ rs) = (if r.public then (start_name g r, start_data g action r) ∷ start_entries g (action + 1) rs else start_entries g action rs)
+start_entries g action (r ∷ rs) = (if r.public then (start_name g r, start_data g action r) ∷ [] else []) ++ start_entries g (action + (if r.public then 1 else 0)) rs
 
 -- the production of an expanded alternative
 abbrev pub production_of : NonterminalString → Expanded → Production

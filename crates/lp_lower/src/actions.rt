@@ -13,7 +13,7 @@ ghost use Rattle.lp_lower.specs.TypeOf.{target_tree};
 use crate::combine::Combination;
 use crate::expand::{Sources, action_count, actions_in, combined, is_replaced};
 use crate::extents::Extent;
-use crate::frame::Frame;
+use crate::frame::{Frame, sum};
 use crate::names::Names;
 use crate::plain::{PlainAlternative, PlainGrammar, PlainRule};
 use crate::types::{location_type, prefixed, target_type};
@@ -118,7 +118,7 @@ fn push_rules(
     for rule in names.plain.rules.as_slice() {
         push_rule(alloc, names, extents, sources, rule, next, all)?;
         let count = actions_in(names, extents, rule.alternatives.as_slice())?;
-        next = next.checked_add(count).ok_or(AllocError)?;
+        next = sum(next, count)?;
     }
     Ok(())
 }
@@ -140,7 +140,7 @@ fn push_rule(
     for alternative in rule.alternatives.as_slice() {
         push_alternative(alloc, names, sources, rule, user, alternative, all)?;
         let count = action_count(names, extents, alternative)?;
-        user = user.checked_add(count).ok_or(AllocError)?;
+        user = sum(user, count)?;
     }
     Ok(())
 }

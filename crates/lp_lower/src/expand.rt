@@ -12,7 +12,7 @@ ghost use Rattle.lp_lower.specs.declared.names.Target.TheVariants.{Rule};
 
 use crate::combine::{Combination, Expanded, Part, combinations};
 use crate::extents::{Extent, alternative_extent};
-use crate::frame::Frame;
+use crate::frame::{Frame, sum};
 use crate::names::{Names, Target};
 use crate::plain::{PlainAlternative, PlainKind, PlainRule};
 use crate::refusals::is_inline;
@@ -162,8 +162,7 @@ pub fn action_count(
 {
     if is_replaced(names, alternative) {
         // A count past the greatest usize stays there, and more can't be added to it.
-        let count = alternative_extent(names, extents, alternative).alternatives;
-        count.checked_add(1).ok_or(AllocError)
+        sum(1, alternative_extent(names, extents, alternative).alternatives)
     } else {
         Ok(1)
     }
@@ -181,7 +180,7 @@ pub fn actions_in(
     let mut count: usize = 0;
     for alternative in alternatives {
         let more = action_count(names, extents, alternative)?;
-        count = count.checked_add(more).ok_or(AllocError)?;
+        count = sum(count, more)?;
     }
     Ok(count)
 }
@@ -199,7 +198,7 @@ fn push_expanded(
 {
     let combinations = combined(alloc, names, sources, alternative)?;
     let first = if is_replaced(names, alternative) {
-        user.checked_add(1).ok_or(AllocError)?
+        sum(user, 1)?
     } else {
         user
     };
@@ -226,7 +225,7 @@ fn push_numbered(
             fallible,
             symbols,
         })?;
-        action = action.checked_add(1).ok_or(AllocError)?;
+        action = sum(action, 1)?;
     }
     Ok(())
 }
@@ -248,7 +247,7 @@ pub fn expanded_all(
     for alternative in alternatives {
         push_expanded(alloc, names, sources, user, alternative, &mut all)?;
         let count = action_count(names, extents, alternative)?;
-        user = user.checked_add(count).ok_or(AllocError)?;
+        user = sum(user, count)?;
     }
     Ok(all)
 }
@@ -275,7 +274,7 @@ pub fn make_sources(
         let expanded = inline_expanded(alloc, names, extents, &sources, first, rule)?;
         sources.inlines.0.push(expanded)?;
         let count = actions_in(names, extents, rule.alternatives.as_slice())?;
-        first = first.checked_add(count).ok_or(AllocError)?;
+        first = sum(first, count)?;
     }
     Ok(sources)
 }

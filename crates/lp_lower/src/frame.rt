@@ -42,15 +42,18 @@ pub fn frame(alloc: Global, plain: &PlainGrammar) -> Result<Frame, AllocError>
     })
 }
 
+/// The sum of two numbers. More than a usize can count are more than memory can hold.
+pub fn sum(first: usize, second: usize) -> Result<usize, AllocError>
+    ensures { IfOk result (λ n. n ≡ first + second) }
+{
+    first.checked_add(second).ok_or(AllocError)
+}
+
 /// The number after this one where an action stands there.
 fn after(number: usize, used: bool) -> Result<usize, AllocError>
     ensures { IfOk result (λ n. n ≡ number + (if used then 1 else 0)) }
 {
-    if used {
-        number.checked_add(1).ok_or(AllocError)
-    } else {
-        Ok(number)
-    }
+    if used { sum(number, 1) } else { Ok(number) }
 }
 
 /// How many rules are public.
@@ -60,7 +63,7 @@ fn public_count(rules: &[PlainRule]) -> Result<usize, AllocError>
     let mut count: usize = 0;
     for rule in rules {
         if rule.public {
-            count = count.checked_add(1).ok_or(AllocError)?;
+            count = sum(count, 1)?;
         }
     }
     Ok(count)

@@ -11,7 +11,7 @@ ghost use Rattle.lp_lower.specs.RightSides.{inline_sides};
 use crate::combine::Expanded;
 use crate::expand::{Sources, actions_in, expanded_all};
 use crate::extents::Extent;
-use crate::frame::Frame;
+use crate::frame::{Frame, sum};
 use crate::names::Names;
 use crate::plain::{PlainGrammar, PlainRule};
 use crate::types::prefixed;
@@ -53,7 +53,7 @@ fn put_starts(
         if rule.public {
             let name = start_name(alloc, plain, rule)?;
             all.insert(name, start_data(alloc, plain, action, rule)?)?;
-            action = action.checked_add(1).ok_or(AllocError)?;
+            action = sum(action, 1)?;
         }
     }
     Ok(())
@@ -119,7 +119,7 @@ fn put_rules(
             all.insert(rule.name.clone()?, data)?;
         }
         let count = actions_in(names, extents, rule.alternatives.as_slice())?;
-        next = next.checked_add(count).ok_or(AllocError)?;
+        next = sum(next, count)?;
     }
     Ok(())
 }
