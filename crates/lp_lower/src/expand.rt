@@ -1,13 +1,13 @@
 //! How alternatives are expanded, and how many actions they have.
 
-ghost use Rattle.std.specs.Prelude.{◌≡◌, ◌++◌, if◌then◌else◌, IfOk, OnOk, Some, [], ◌∷◌, map, slice_index_or};
+ghost use Rattle.std.specs.Prelude.{◌≡◌, ◌++◌, if◌then◌else◌, IfOk, OnOk, Some, [], ◌∷◌, length, map, slice_index_or};
 ghost use Rattle.lp_lower.specs.ActionNumbers.{action_count, actions_in, is_replaced, is_replaced_target};
 ghost use Rattle.lp_lower.specs.Expansion.{combined, expanded, expanded_all, expanded_from, lookaround, options, rule_pieces, sources, terminal_pieces};
 ghost use Rattle.lp_lower.specs.Extents.{extent_of};
 ghost use Rattle.lp_lower.specs.Framing.{frame_of};
 ghost use Rattle.lp_lower.specs.Naming.{target};
 ghost use Rattle.lp_lower.specs.Pieces.{pieces_of};
-ghost use Rattle.lp_lower.specs.RightSides.{inline_sides};
+ghost use Rattle.lp_lower.specs.RightSides.{inline_sides, right_sides};
 ghost use Rattle.lp_lower.specs.declared.names.Target.TheVariants.{Rule};
 
 use crate::combine::{Combination, Expanded, Part, combinations};
@@ -161,11 +161,28 @@ pub fn action_count(
     ensures { IfOk result (λ n. n ≡ action_count names.now.plain.now alternative.now) }
 {
     if is_replaced(names, alternative) {
-        // A count past the greatest usize stays there, and more can't be added to it.
-        sum(1, alternative_extent(names, extents, alternative).alternatives)
+        sum(1, side_count(names, extents, alternative)?)
     } else {
         Ok(1)
     }
+}
+
+/// How many right sides an alternative has. More than a usize can count are more than memory can
+/// hold.
+#[tactic(auto, unfolding(crate::specs::Extents::extent_of))]
+fn side_count(
+    names: &Names<'_>,
+    extents: &[Extent],
+    alternative: &PlainAlternative,
+) -> Result<usize, AllocError>
+    requires { extents.now ≡ map extent_of (inline_sides names.now.plain.now) }
+    ensures { IfOk result (λ n. n ≡ length (right_sides names.now.plain.now (inline_sides names.now.plain.now) alternative.now)) }
+{
+    let count = alternative_extent(names, extents, alternative).alternatives;
+    if count == usize::MAX {
+        return Err(AllocError);
+    }
+    Ok(count)
 }
 
 /// How many actions these alternatives have.
