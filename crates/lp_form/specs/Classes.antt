@@ -1,9 +1,11 @@
 -- The classes: which parts may stand at one place of a form.
-use Rattle.std.specs.Prelude.{List}
+use Rattle.std.specs.Prelude.{Bool, List}
+use Rattle.std.specs.List.{list_any}
 use Rattle.lp_form.specs.declared.class.Class.{Class}
 use Rattle.lp_form.specs.declared.class.Class.TheVariants as class
 use Rattle.lp_form.specs.declared.part.Part.{Part}
 use Rattle.lp_form.specs.declared.member.TheConstants as member
+use Rattle.lp_form.specs.contracts.part.PartPartialEq.TheImpl as equality
 
 -- the parts of a class, in the order in which a reader tries them
 unfoldable pub members_of : Class → List Part
@@ -111,3 +113,7 @@ members_of class.InlineSpan = member.INLINE_SPAN.now
 members_of class.ArgumentRow = member.ARGUMENT_ROW.now
 members_of class.TypeArgument = member.TYPE_ARGUMENT.now
 members_of class.WhitespaceRow = member.WHITESPACE_ROW.now
+
+-- a part is one of a class
+abbrev pub is_member : Class → Part → Bool
+is_member class part = list_any (λ m. (equality.ghosts).eq m part) (members_of class)

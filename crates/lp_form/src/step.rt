@@ -18,7 +18,7 @@ pub fn steps(part: Part) -> &'static [Line]
         Part::UseLine => frame::USE_LINE,
         Part::StandardUses => frame::STANDARD_USES,
         Part::ParseModule => frame::PARSE_MODULE,
-        Part::TokenUseInterned => frame::TOKEN_USE_INTERNED,
+        Part::TokenUseInterned => frame::TOKEN_USE_PLAIN,
         Part::TokenUsePlain => frame::TOKEN_USE_PLAIN,
         Part::Reexport => frame::REEXPORT,
         Part::TableItems => frame::TABLE_ITEMS,
