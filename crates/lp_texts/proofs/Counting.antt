@@ -4,7 +4,6 @@ use Rattle.std.proofs.lemmas.List.{take_more, take_all, take-append-drop, map-ap
 use Rattle.std.proofs.lemmas.List.Elements.{All-nil, All-cons, All-append, All-map}
 use Rattle.std.specs.List.{flat_map}
 use Rattle.lp_texts.specs.declared.faults.TextKind.{TextKind}
-use Rattle.lp_texts.specs.declared.faults.TextPlace.{TextPlace}
 use Rattle.lp_texts.specs.declared.faults.TextFault.{TextFault}
 use Rattle.lp_texts.specs.declared.faults.TextFault.TheVariants.{Bad, Memory}
 use Rattle.lp_texts.specs.Counted.{Meets, FailsFirst, Counts, IsNext}

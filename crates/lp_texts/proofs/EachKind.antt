@@ -1,10 +1,9 @@
 -- The kinds of texts, one after the other.
-use Rattle.std.proofs.Common.{◌≡◌, ℕ, ◌+◌, ◌<◌, ◌≤◌, List, ⊎_elim, Option, Err, cond, eqb, refl, sym, ap, ◌∙◌, subst, arith}
+use Rattle.std.proofs.Common.{◌≡◌, ℕ, ◌+◌, ◌<◌, List, ⊎_elim, Option, Err, cond, eqb, refl, sym, ap, ◌∙◌, subst, arith}
 use Rattle.std.proofs.lemmas.Bool.{cases_lt}
 use Rattle.lp_repr.specs.declared.repr.Grammar.{Grammar}
 use Rattle.lp_texts.specs.declared.faults.TextKind.{TextKind}
 use Rattle.lp_texts.specs.declared.faults.TextKind.TheVariants.{Use, Attribute, Terminal, Nonterminal, Pattern, TypeText, Code}
-use Rattle.lp_texts.specs.declared.faults.TextPlace.{TextPlace}
 use Rattle.lp_texts.specs.declared.faults.TextFault.{TextFault}
 use Rattle.lp_texts.specs.declared.faults.TextFault.TheVariants.{Bad, Memory}
 use Rattle.lp_texts.specs.Counted.{FailsFirst, Counts}

@@ -1,7 +1,7 @@
 -- The pieces of a text: there is one way through them.
-use Rattle.std.proofs.Common.{◌≡◌, ℕ, ◌<◌, ◌≤◌, List, [], ◌∷◌, length, ◌⊎◌, inl, inr, ⊎_elim, refl, sym, ap, ◌∙◌, subst, arith}
+use Rattle.std.proofs.Common.{◌≡◌, ℕ, ◌<◌, ◌≤◌, List, length, ◌⊎◌, inl, inr, ⊎_elim, refl, sym, subst, arith}
 use Rattle.lp_texts.specs.Quotes.{Piece, Quote, Unended, Single, Nothing, piece}
-use Rattle.lp_texts.specs.Brackets.{open_after, Step, Onward, Stuck, step_over, Leads, leads_none, leads_one}
+use Rattle.lp_texts.specs.Brackets.{Onward, Stuck, step_over, Leads, leads_none, leads_one}
 use Rattle.lp_texts.proofs.Lengths.{LeavesFewer, piece_fewer}
 
 onward_fewer : (n : ℕ) (before : List ℕ) (p : Piece) (next inner : List ℕ) → LeavesFewer n p → step_over before p ≡ Onward next inner → length next < n

@@ -1,5 +1,5 @@
 -- What follows a piece is shorter than the text.
-use Rattle.std.proofs.Common.{◌≡◌, ℕ, ◌<◌, ◌≤◌, Bool, true, false, cond, eqb, List, [], ◌∷◌, length, Option, Some, None, IfSome, arith}
+use Rattle.std.proofs.Common.{ℕ, ◌<◌, ◌≤◌, true, false, cond, eqb, List, [], ◌∷◌, length, Option, Some, None, IfSome, arith}
 use Rattle.lp_tok.specs.Signs.{quote, apostrophe, backslash}
 use Rattle.lp_tok.specs.Scans.{from_char, from_unescaped, past}
 use Rattle.lp_texts.specs.Quotes.{Piece, Quote, Unended, Single, Nothing, goes_on, after_character, quote_piece, character_piece, apostrophe_piece, piece}

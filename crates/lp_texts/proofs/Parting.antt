@@ -1,6 +1,6 @@
 -- The first ` | ` of a text, piece by piece.
-use Rattle.std.proofs.Common.{◌≡◌, ℕ, ◌+◌, ◌-◌, ◌<◌, ◌≤◌, Bool, true, false, List, [], ◌∷◌, length, drop, get_or, ⊎_elim, Option, Some, None, IsTrue, codes, nat_eq, cond, refl, sym, ap, ◌∙◌, subst, arith, below_more, length-drop}
-use Rattle.std.proofs.lemmas.List.{drop_more, drop_all, nil_from_length}
+use Rattle.std.proofs.Common.{◌≡◌, ℕ, ◌+◌, ◌-◌, ◌<◌, ◌≤◌, Bool, true, false, List, [], ◌∷◌, length, drop, get_or, ⊎_elim, Some, None, IsTrue, codes, nat_eq, cond, refl, sym, ap, ◌∙◌, subst, arith, below_more, length-drop}
+use Rattle.std.proofs.lemmas.List.{drop_all, nil_from_length}
 use Rattle.std.proofs.lemmas.Bool.{false≢true, cases_eq, cases_lt, ne_eqb}
 use Rattle.std.specs.List.{starts_with}
 use Rattle.lp_texts.specs.Quotes.{Quote, Unended, Single, piece}

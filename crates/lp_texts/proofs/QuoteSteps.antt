@@ -1,7 +1,7 @@
 -- Steps over the bytes of a quote.
 use Rattle.std.proofs.Common.{◌≡◌, ℕ, ◌+◌, ◌<◌, ◌≤◌, Bool, true, false, List, [], ◌∷◌, length, drop, get_or, Option, Some, None, refl, sym, ap, ◌∙◌, subst, arith}
 use Rattle.std.proofs.lemmas.List.{drop_more, drop_all}
-use Rattle.std.proofs.lemmas.Bool.{ne_eqb, eq-eqb}
+use Rattle.std.proofs.lemmas.Bool.{ne_eqb}
 use Rattle.lp_tok.specs.Signs.{quote, apostrophe, backslash}
 use Rattle.lp_tok.specs.Scans.{from_char, from_unescaped, past, past_any}
 use Rattle.lp_texts.specs.Quotes.{Single, Quote, goes_on, after_character, quote_piece, character_piece, apostrophe_piece, piece}

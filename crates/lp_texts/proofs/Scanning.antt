@@ -1,12 +1,12 @@
 -- The first wrong byte of a text of one line, piece by piece.
-use Rattle.std.proofs.Common.{◌≡◌, ℕ, ◌+◌, ◌-◌, ◌<◌, ◌≤◌, Bool, true, false, List, [], ◌∷◌, length, drop, get_or, ◌⊎◌, inl, inr, ⊎_elim, Option, Some, None, slice_get, refl, sym, ap, ◌∙◌, subst, arith, below_more, length-drop, eqb, reverse, IsTrue, is_some, not}
+use Rattle.std.proofs.Common.{◌≡◌, ℕ, ◌+◌, ◌-◌, ◌<◌, ◌≤◌, Bool, true, false, List, [], ◌∷◌, length, drop, get_or, ◌⊎◌, inl, inr, ⊎_elim, Option, Some, None, refl, sym, ap, ◌∙◌, subst, arith, below_more, length-drop, eqb, reverse, IsTrue, is_some, not}
 use Rattle.std.proofs.lemmas.List.{drop_more, drop_all, nil_from_length, length-reverse}
 use Rattle.std.proofs.lemmas.Option.{slice_get-get_or, slice_get_past, get_or_from_slice_get}
 use Rattle.std.proofs.lemmas.Bool.{false≢true, cases_eq, cases_lt, ne_eqb, eqb-true, eqb-false}
 use Rattle.std.specs.Str.{chars}
 use Rattle.std.specs.Char.{is_whitespace}
 use Rattle.lp_tok.specs.Signs.{quote, apostrophe}
-use Rattle.lp_texts.specs.Quotes.{Quote, Unended, Single, apostrophe_piece, piece}
+use Rattle.lp_texts.specs.Quotes.{Quote, Unended, Single, piece}
 use Rattle.lp_texts.specs.Brackets.{open_after, step_over, Leads, leads_none}
 use Rattle.lp_texts.specs.FirstWrong.{IsFirst}
 use Rattle.lp_texts.specs.OneLine.{begins, ends_line, is_wrong, IsWrong, IsOneLine, blank, line_end, outside, open_quote, open_bracket}

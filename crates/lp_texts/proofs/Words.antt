@@ -3,7 +3,7 @@ use Rattle.std.proofs.Common.{◌≡◌, ℕ, ◌+◌, ◌<◌, ◌≤◌, Bool,
 use Rattle.std.proofs.lemmas.List.{take_more, take-append-drop, take-take, take_at, drop_at, nil_from_length}
 use Rattle.std.proofs.lemmas.Bool.{eqb-true, eqb-false}
 use Rattle.std.proofs.lemmas.Str.{chars-nil, chars-append, encodes-chars, chars_past_char, IsUtf8-drop, IsCharBoundary-from_take}
-use Rattle.std.specs.List.{flat_map, join_by}
+use Rattle.std.specs.List.{flat_map}
 use Rattle.std.specs.Str.{chars}
 use Rattle.lp_texts.specs.OneLine.{begins}
 use Rattle.lp_texts.specs.Pattern.{joined, ends}

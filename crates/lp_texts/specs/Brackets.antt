@@ -1,5 +1,5 @@
 -- The brackets of a text that are open outside its quotes. They are named by their closers, the innermost first.
-use Rattle.std.specs.Prelude.{◌≡◌, ℕ, ◌==◌, Bool, ◌||◌, List, [], ◌∷◌, drop, if◌then◌else◌}
+use Rattle.std.specs.Prelude.{◌≡◌, ℕ, ◌==◌, Bool, ◌||◌, List, ◌∷◌, drop, if◌then◌else◌}
 use Rattle.lp_tok.specs.Signs.{left_parenthesis, right_parenthesis, left_bracket, right_bracket, left_brace, right_brace}
 use Rattle.lp_texts.specs.Quotes.{Piece, Quote, Unended, Single, Nothing, piece}
 

@@ -1,7 +1,6 @@
 -- Things that are counted through in their order, up to the first that breaks its rule.
-use Rattle.std.specs.Prelude.{◌≡◌, ℕ, ◌+◌, ◌≤◌, List, ◌∷◌, ◌++◌, length, All, Option, Some, None, Result, Ok, Err}
+use Rattle.std.specs.Prelude.{◌≡◌, ℕ, ◌+◌, List, ◌∷◌, ◌++◌, length, All, Option, Some, None, Result, Ok, Err}
 use Rattle.lp_texts.specs.declared.faults.TextKind.{TextKind}
-use Rattle.lp_texts.specs.declared.faults.TextPlace.{TextPlace}
 use Rattle.lp_texts.specs.declared.faults.TextFault.{TextFault}
 use Rattle.lp_texts.specs.declared.faults.TextFault.TheVariants.{Bad, Memory}
 

@@ -1,5 +1,5 @@
 -- The wrong bytes of attributes, and of the texts of terminals and nonterminals.
-use Rattle.std.specs.Prelude.{ℕ, ◌+◌, ◌==◌, Bool, ◌&&◌, ◌||◌, not, List, length, drop, codes, nat_eq, nat_lt}
+use Rattle.std.specs.Prelude.{ℕ, ◌+◌, ◌==◌, Bool, ◌&&◌, ◌||◌, not, List, length, drop, codes, nat_eq}
 use Rattle.std.specs.List.{starts_with}
 use Rattle.lp_tok.specs.Signs.{line_feed, bang, hash, left_bracket, right_bracket}
 use Rattle.lp_texts.specs.OneLine.{begins}

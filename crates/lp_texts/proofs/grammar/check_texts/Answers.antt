@@ -1,4 +1,4 @@
-use Rattle.std.proofs.Common.{◌+◌, Ok, Err, refl, subst}
+use Rattle.std.proofs.Common.{Ok, Err, refl, subst}
 use Rattle.std.proofs.lemmas.Result.{err_from_is_err_and}
 use Rattle.std.specs.BTreeMap.{keys, values}
 use Rattle.lp_repr.specs.Shown.{terminal_text}

@@ -1,4 +1,4 @@
-use Rattle.std.proofs.Common.{◌≡◌, ◌<◌, ◌++◌, Some, length, string_bytes, arith, sym, ap, ◌∙◌, subst}
+use Rattle.std.proofs.Common.{◌≡◌, ◌++◌, Some, length, string_bytes, arith, sym, ap, ◌∙◌, subst}
 use Rattle.lp_texts.specs.FirstWrong.{IsFirst}
 use Rattle.lp_texts.specs.Pattern.{IsWrongHole}
 use Rattle.lp_texts.proofs.Holes.{hole_first, hole_more, hole_none, after_hole, after_start, beside_there}

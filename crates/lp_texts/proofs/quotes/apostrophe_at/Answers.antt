@@ -1,4 +1,4 @@
-use Rattle.std.proofs.Common.{◌<◌, ◌+◌, length, arith, sym, subst}
+use Rattle.std.proofs.Common.{◌+◌, arith, sym, subst}
 use Rattle.lp_texts.specs.Places.{IsPieceAt}
 use Rattle.lp_texts.proofs.QuoteSteps.{found_at, last_mark, escaped_mark, single_mark, quoted_mark}
 use Rattle.lp_texts.proofs.quotes.apostrophe_at.Goals as goal

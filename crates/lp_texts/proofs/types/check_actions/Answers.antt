@@ -1,7 +1,7 @@
 use Rattle.std.proofs.lemmas.Result.{err_from_is_err_and}
 use Rattle.lp_texts.specs.declared.faults.TextKind.TheVariants.{TypeText}
 use Rattle.lp_texts.specs.TextRules.{AnswersLine}
-use Rattle.std.proofs.Common.{◌++◌, map, Ok, Err}
+use Rattle.std.proofs.Common.{map}
 use Rattle.std.specs.List.{flat_map}
 use Rattle.lp_repr.specs.ShownTypes.{type_text}
 use Rattle.lp_repr.specs.declared.repr.ActionFnDefn.{ActionFnDefn}

@@ -1,7 +1,7 @@
 use Rattle.std.proofs.lemmas.Result.{err_from_is_err_and}
 use Rattle.lp_texts.specs.declared.faults.TextKind.TheVariants.{TypeText}
 use Rattle.lp_texts.specs.TextRules.{AnswersLine}
-use Rattle.std.proofs.Common.{◌++◌, Ok, Err, subst}
+use Rattle.std.proofs.Common.{◌++◌, Err, subst}
 use Rattle.lp_texts.specs.Counted.{Counts}
 use Rattle.lp_texts.specs.TypeTexts.{declared_texts, header_texts, action_texts}
 use Rattle.lp_texts.proofs.Counting.{counts_then, counts_stop}
