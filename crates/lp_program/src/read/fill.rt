@@ -2,8 +2,8 @@
 
 ghost use Rattle.std.specs.Prelude.{◌≡◌, ◌<◌, ◌≤◌, length};
 
-use crate::texts::{is_identifier, is_one_line};
 use lp_form::Kind;
+use lp_texts::{is_identifier, is_one_line};
 use std::alloc::{AllocError, Global};
 
 pub(crate) fn is_digit(b: u8) -> bool {

@@ -3,7 +3,7 @@
 ghost use Rattle.std.specs.Prelude.{◌≡◌, ◌+◌, ◌<◌, ◌≤◌, length};
 ghost use Rattle.std.specs.Iterator.{at_most};
 
-use crate::texts::pattern_end;
+use lp_texts::first_bar;
 
 /// The elements of a list that is joined by a separator, as `, ` or ` | `.
 #[derive(Drop)]
@@ -78,7 +78,7 @@ impl<'p> Iterator for Patterns<'p> {
             return None;
         }
         self.left -= 1;
-        let end = pattern_end(rest.as_bytes());
+        let end = first_bar(rest.as_bytes()).unwrap_or(rest.len());
         self.rest = rest.get(end.saturating_add(3)..).unwrap_or("");
         Some(rest.get(..end).unwrap_or(rest))
     }

@@ -1,5 +1,5 @@
 use Rattle.std.proofs.lemmas.Str.{IsCharBoundary-start}
-use Rattle.lp_program.proofs.check_texts.cut_fault.Goals as goal
+use Rattle.lp_texts.proofs.code.halt.Goals as goal
 
 pub code_end-requires : goal.code_end-requires
 code_end-requires c = IsCharBoundary-start _ c.as_str.utf8

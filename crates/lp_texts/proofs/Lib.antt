@@ -1,0 +1,11 @@
+pub mod Lengths
+pub mod Leading
+pub mod Scanning
+pub mod Parting
+pub mod QuoteSteps
+pub mod Counting
+pub mod EachKind
+pub mod FirstPlaces
+pub mod Words
+pub mod Holes
+pub mod NamePlaces

@@ -1,0 +1,13 @@
+pub mod Quotes
+pub mod Brackets
+pub mod FirstWrong
+pub mod OneLine
+pub mod Bars
+pub mod Identifiers
+pub mod Places
+pub mod Pattern
+pub mod Names
+pub mod UserCode
+pub mod Counted
+pub mod TypeTexts
+pub mod TextRules
