@@ -1,5 +1,5 @@
 -- A closure is what is given and the productions, with the dot first, of the nonterminals that it opens.
-use Rattle.std.proofs.Common.{◌≡◌, ◌↔◌, ◌⊎◌, inl, inr, ℕ, zero, suc, ◌+◌, ◌<◌, ◌≤◌, Bool, true, false, List, [], ◌∷◌, refl, arith, sym, ap, ◌∙◌, subst, Option, Some, None, IfSome, IsTrue, slice_get, get_or, length, ◌==◌, eqb-true, eq-eqb, ⊎_elim}
+use Rattle.std.proofs.Common.{◌≡◌, ◌↔◌, ◌⊎◌, inl, inr, ℕ, zero, suc, ◌+◌, ◌<◌, ◌≤◌, Bool, true, false, List, [], ◌∷◌, refl, arith, sym, ap, ◌∙◌, subst, Some, None, IsTrue, slice_get, get_or, length, ◌==◌, eqb-true, eq-eqb, ⊎_elim}
 use Rattle.std.specs.List.{AllByRecursion, list_all}
 use Rattle.std.proofs.lemmas.Bool.{cases_lt, false≢true}
 use Rattle.std.proofs.lemmas.Option.{same_Some, slice_get_within}
@@ -9,7 +9,7 @@ use Rattle.lp_repr.specs.declared.lr1.Item.{Item}
 use Rattle.lp_repr.specs.declared.lr1.Lr1State.{Lr1State}
 use Rattle.lp_repr.specs.declared.numbering.Rule.{Rule}
 use Rattle.lp_repr.specs.declared.numbering.SymbolNumber.TheVariants.{Nonterminal}
-use Rattle.lp_tables.specs.Opening.{Leads, Opens, first, onward, FollowsKernel, AreOpened, IsOpenedAt, BeginsOpened, IsClosed}
+use Rattle.lp_tables.specs.Opening.{Opens, first, onward, FollowsKernel, AreOpened, IsOpenedAt, BeginsOpened, IsClosed}
 use Rattle.lp_tables.proofs.Items.{each_item, item_each}
 use Rattle.lp_tables.proofs.Lists.{all_tests}
 

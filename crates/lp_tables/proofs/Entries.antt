@@ -1,5 +1,5 @@
 -- What holds of each entry of a map or a set, by what a look-up finds.
-use Rattle.std.proofs.Common.{◌≡◌, ◌↔◌, ℕ, Bool, true, false, ◌==◌, List, map, refl, sym, ap, ◌∙◌, subst, Option, Some, None, IsSome, IsTrue, is_some, slice_get, eqb-true, eq-eqb}
+use Rattle.std.proofs.Common.{◌≡◌, ◌↔◌, ℕ, Bool, true, false, refl, sym, ap, ◌∙◌, subst, Option, Some, None, IsSome, IsTrue, is_some, eqb-true, eq-eqb}
 use Rattle.std.specs.BTreeMap.{BTreeMap, IsOrdered, get, is_at, keys}
 use Rattle.std.specs.BTreeSet.{BTreeSet, contains}
 use Rattle.std.specs.Cmp.{nat_cmp_total, unsigned_ties}

@@ -44,9 +44,9 @@ after_more rules kind items i m item s t at next e h n =
     elim (is_at (nat_cmp m) n) as (λ a. is_at (nat_cmp m) n ≡ a → contains nat_cmp t n ≡ cond a true (contains nat_cmp s n) → IsTrue (contains nat_cmp t n) ↔ FollowsIn rules kind (take (i + 1) items) n) [
       | true ↦ λ a f. (λ _. follows_new rules kind items i n item at (next ∙ ap Some (at_same m n a)), λ _. f)
       | false ↦ λ a f. (
-          λ yes. follows_old rules kind items i n ((h n).0 (sym f ∙ yes)),
-          λ p. ⊎_elim (λ old. f ∙ (h n).1 old) (λ new. absurd (false≢true (sym a ∙ (let same : m ≡ n = same_Some m n (sym next ∙ new) in subst (λ k. is_at (nat_cmp m) k ≡ true) same (at_itself m))))) (follows_step rules kind items i n item at p),
-        )
+        λ yes. follows_old rules kind items i n ((h n).0 (sym f ∙ yes)),
+        λ p. ⊎_elim (λ old. f ∙ (h n).1 old) (λ new. absurd (false≢true (sym a ∙ (let same : m ≡ n = same_Some m n (sym next ∙ new) in subst (λ k. is_at (nat_cmp m) k ≡ true) same (at_itself m))))) (follows_step rules kind items i n item at p),
+      )
     ] refl (e n)
 
 pub after_same : (rules : List Rule) (kind : Kind) (items : List Item) (i : ℕ) (item : Item) (s : BTreeSet ℕ) → slice_get items i ≡ Some item → number_after rules kind item.production item.index ≡ None → ((n : ℕ) → IsTrue (contains nat_cmp s n) ↔ FollowsIn rules kind (take i items) n) → (n : ℕ) → IsTrue (contains nat_cmp s n) ↔ FollowsIn rules kind (take (i + 1) items) n

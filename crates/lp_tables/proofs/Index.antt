@@ -1,9 +1,9 @@
 -- The productions of a nonterminal have the numbers from its own entry of the index up to the next one.
-use Rattle.std.proofs.Common.{◌≡◌, ◌↔◌, ◌⊎◌, ℕ, ◌+◌, ◌-◌, ◌<◌, ◌≤◌, zero, suc, List, [], ◌∷◌, ◌++◌, length, map, refl, arith, add-one, sym, ap, ◌∙◌, subst, Option, Some, None, slice_get, ⊎_elim}
+use Rattle.std.proofs.Common.{◌≡◌, ◌↔◌, ◌⊎◌, ℕ, ◌+◌, ◌-◌, ◌<◌, ◌≤◌, zero, suc, List, [], ◌∷◌, ◌++◌, length, map, refl, arith, add-one, sym, ap, ◌∙◌, subst, Some, None, slice_get, ⊎_elim}
 use Rattle.std.specs.BTreeMap.{values}
 use Rattle.std.proofs.lemmas.Bool.{cases_lt}
 use Rattle.std.proofs.lemmas.List.{length-map}
-use Rattle.std.proofs.lemmas.Option.{slice_get_within, slice_get_past, same_Some}
+use Rattle.std.proofs.lemmas.Option.{same_Some}
 use Rattle.lp_repr.specs.Closure.{HasLeft}
 use Rattle.lp_repr.specs.Numbering.{rule_of, rules_from, rules_of, firsts_from}
 use Rattle.lp_repr.specs.declared.numbering.Rule.{Rule}

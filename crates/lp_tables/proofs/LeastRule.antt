@@ -1,8 +1,8 @@
 -- The least rule that fails at a state, and the least state at which one does.
-use Rattle.std.proofs.Common.{◌≡◌, ◌⊎◌, ℕ, ◌+◌, ◌<◌, ◌≤◌, zero, suc, Bool, true, false, List, [], ◌∷◌, length, get_or, refl, arith, sym, ap, ◌∙◌, subst, Option, Some, None, IfSome, IfOk, Result, Ok, Err, IsTrue, ◌↔◌, slice_get, ⊎_elim}
+use Rattle.std.proofs.Common.{◌≡◌, ℕ, ◌+◌, ◌<◌, ◌≤◌, zero, suc, Bool, List, [], ◌∷◌, length, get_or, refl, arith, sym, ap, ◌∙◌, subst, Option, Some, None, IfSome, IfOk, Result, Ok, Err, IsTrue, ◌↔◌, slice_get, ⊎_elim}
 use Rattle.std.proofs.lemmas.Bool.{cases_eq, cases_lt}
 use Rattle.std.proofs.lemmas.Option.{slice_get_past}
-use Rattle.lp_repr.specs.ValidTables.{IsValidTables, IsValidState, Begins, start_number}
+use Rattle.lp_repr.specs.ValidTables.{IsValidTables, Begins, start_number}
 use Rattle.lp_repr.specs.Numbering.{rules_of}
 use Rattle.lp_repr.specs.declared.lr1.Lr1State.{Lr1State}
 use Rattle.lp_repr.specs.declared.repr.Grammar.{Grammar}

@@ -1,10 +1,10 @@
 -- Tokens that stand once.
-use Rattle.std.proofs.Common.{◌≡◌, ◌↔◌, ◌⊎◌, ℕ, ◌+◌, ◌<◌, ◌≤◌, zero, suc, Bool, true, false, List, [], ◌∷◌, length, take, refl, arith, sym, ap, ◌∙◌, subst, Some, None, IsTrue, slice_get, eqb-true, eq-eqb, ⊎_elim}
+use Rattle.std.proofs.Common.{◌≡◌, ◌↔◌, ℕ, ◌+◌, ◌<◌, ◌≤◌, true, false, List, length, take, refl, arith, sym, ap, ◌∙◌, subst, Some, IsTrue, slice_get, eqb-true, eq-eqb, ⊎_elim}
 use Rattle.std.specs.Cmp.{unsigned_ties}
 use Rattle.std.specs.List.{list_any}
 use Rattle.std.specs.Ordering.{is_eq}
 use Rattle.std.specs.declared.cmp.Ordering.{Ordering}
-use Rattle.std.proofs.lemmas.Bool.{false≢true, cases_lt, cases_eq}
+use Rattle.std.proofs.lemmas.Bool.{false≢true, cases_lt}
 use Rattle.std.proofs.lemmas.Option.{same_Some, slice_get_within}
 use Rattle.lp_repr.specs.contracts.lr1.TokenOrd.TheImpl as order
 use Rattle.lp_repr.specs.declared.lr1.Token.{Token}

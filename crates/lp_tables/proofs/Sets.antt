@@ -1,19 +1,17 @@
 -- Sets of items, by what was put into them.
-use Rattle.std.proofs.Common.{◌≡◌, ◌↔◌, ◌⊎◌, ℕ, Bool, true, false, cond, ◌||◌, ◌&&◌, ◌==◌, List, refl, sym, ap, ◌∙◌, subst, Some, IsTrue, slice_get, eqb-true, eq-eqb}
+use Rattle.std.proofs.Common.{◌≡◌, ℕ, Bool, true, false, cond, ◌||◌, ◌&&◌, ◌==◌, List, sym, ◌∙◌, eqb-true, eq-eqb}
 use Rattle.std.specs.BTreeSet.{BTreeSet, contains}
 use Rattle.std.specs.Cmp.{both_tied, unsigned_ties}
 use Rattle.std.specs.List.{list_any}
 use Rattle.std.specs.Ordering.{is_eq, nat_cmp}
 use Rattle.std.proofs.lemmas.Bool.{and_parts, and_from}
-use Rattle.lp_repr.specs.Closure.{HasItem}
 use Rattle.lp_repr.specs.declared.lr1.Item.{Item}
-use Rattle.lp_tables.specs.ItemSets.{item_cmp, has, IsSetOf}
+use Rattle.lp_tables.specs.ItemSets.{item_cmp, IsSetOf}
 use Rattle.lp_tables.proofs.Lists.{any_place, any_at}
 
 -- items that compare equal are the same
 pub items_tie : (x y : ℕ × ℕ) → is_eq (item_cmp x y) ≡ ((x.0 == y.0) && (x.1 == y.1))
 items_tie x y = sym (both_tied (x.0 == y.0) (x.1 == y.1) (nat_cmp x.0 y.0) (nat_cmp x.1 y.1) (unsigned_ties x.0 y.0) (unsigned_ties x.1 y.1))
-
 
 pub same_items : (a b p d : ℕ) → is_eq (item_cmp (a, b) (p, d)) ≡ true → (a ≡ p) × (b ≡ d)
 same_items a b p d e =

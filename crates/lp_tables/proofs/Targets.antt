@@ -1,17 +1,17 @@
 -- The target of an edge, by its items one by one.
-use Rattle.std.proofs.Common.{◌≡◌, ◌↔◌, ◌⊎◌, inl, inr, ℕ, ◌+◌, ◌-◌, ◌<◌, Bool, true, false, List, refl, arith, sym, ap, ◌∙◌, subst, Some, IsTrue, slice_get, ⊎_elim}
+use Rattle.std.proofs.Common.{◌≡◌, ◌↔◌, ◌⊎◌, inl, inr, ℕ, ◌+◌, ◌-◌, ◌<◌, Bool, List, refl, arith, sym, ◌∙◌, subst, Some, IsTrue, ⊎_elim}
 use Rattle.std.specs.BTreeMap.{BTreeMap, get}
 use Rattle.std.specs.BTreeSet.{BTreeSet}
 use Rattle.std.specs.List.{AllByRecursion}
 use Rattle.std.specs.Ordering.{nat_cmp}
 use Rattle.std.proofs.lemmas.Option.{same_Some}
-use Rattle.lp_repr.specs.Closure.{next_symbol, HasLeft, HasItem, InClosure, given, opened, Advanced}
+use Rattle.lp_repr.specs.Closure.{next_symbol, HasItem, InClosure, given, opened, Advanced}
 use Rattle.lp_repr.specs.ValidTables.{IsTarget, IsClosureOf}
 use Rattle.lp_repr.specs.declared.lr1.Item.{Item}
 use Rattle.lp_repr.specs.declared.lr1.Lr1State.{Lr1State}
 use Rattle.lp_repr.specs.declared.numbering.Rule.{Rule}
-use Rattle.lp_tables.specs.Edges.{ComesFrom, CameOver, GoesOn, HoldsItem}
-use Rattle.lp_tables.specs.ItemSets.{has, IsSetOf}
+use Rattle.lp_tables.specs.Edges.{ComesFrom, CameOver, GoesOn}
+use Rattle.lp_tables.specs.ItemSets.{IsSetOf}
 use Rattle.lp_tables.specs.Numbers.{symbol_of}
 use Rattle.lp_tables.specs.Opening.{IsClosed}
 use Rattle.lp_tables.specs.declared.rules.Kind.{Kind}
@@ -63,23 +63,30 @@ module _ (rules : List Rule) (states : List Lr1State) (s : Lr1State) (set : BTre
   lead_when : ((n target : ℕ) → get nat_cmp edges n ≡ Some target → ComesFrom rules states set kind n target) → AllByRecursion (λ (i : Item). GoesOn rules states kind edges i.production i.index) s.items → Lead
   lead_when come go = λ n target e.
       let c = come n target e in
-      let t = c.0 in
-      (t, c.1, closed_to_closure rules (Advanced rules s.items (symbol_of kind n)) t
-      (λ p d i pos. came_advanced rules s set kind n p d of pos (each_item (λ p d. 0 < d → CameOver rules set kind n p (d - 1)) t.items c.3 p d i pos))
-      (λ p d a.
-      let next = number_from kind (next_symbol rules p a.0) n a.3 in
-      let there = each_item (λ p d. GoesOn rules states kind edges p d) s.items go p a.0 a.2 n target next e in
-      let same : there.0 ≡ t = same_Some there.0 t (sym there.1 ∙ c.1) in
-      let here : HasItem t.items p (a.0 + 1) = subst (λ (u : Lr1State). HasItem u.items p (a.0 + 1)) same there.2 in
-      (subst (HasItem t.items p) (sym a.1) here, advanced_pos rules s kind n p d a)) c.2)
+      let t = c.0 in (
+        t,
+        c.1,
+        closed_to_closure rules (Advanced rules s.items (symbol_of kind n)) t
+            (λ p d i pos. came_advanced rules s set kind n p d of pos (each_item (λ p d. 0 < d → CameOver rules set kind n p (d - 1)) t.items c.3 p d i pos))
+            (λ p d a.
+            let next = number_from kind (next_symbol rules p a.0) n a.3 in
+            let there = each_item (λ p d. GoesOn rules states kind edges p d) s.items go p a.0 a.2 n target next e in
+            let same : there.0 ≡ t = same_Some there.0 t (sym there.1 ∙ c.1) in
+            let here : HasItem t.items p (a.0 + 1) = subst (λ (u : Lr1State). HasItem u.items p (a.0 + 1)) same there.2 in
+            (subst (HasItem t.items p) (sym a.1) here, advanced_pos rules s kind n p d a)) c.2,
+      )
 
   pub lead_comes : Lead → (n target : ℕ) → get nat_cmp edges n ≡ Some target → ComesFrom rules states set kind n target
   lead_comes h n target e =
       let c = h n target e in
       let t = c.0 in
-      let pos = advanced_pos rules s kind n in
-      (t, c.1, closure_to_closed rules (Advanced rules s.items (symbol_of kind n)) t pos c.2, item_each (λ p d. 0 < d → CameOver rules set kind n p (d - 1)) t.items
-      (λ p d i less. advanced_came rules s set kind n p d of (kernel_given rules (Advanced rules s.items (symbol_of kind n)) p d less ((c.2 p d).0 i))))
+      let pos = advanced_pos rules s kind n in (
+        t,
+        c.1,
+        closure_to_closed rules (Advanced rules s.items (symbol_of kind n)) t pos c.2,
+        item_each (λ p d. 0 < d → CameOver rules set kind n p (d - 1)) t.items
+            (λ p d i less. advanced_came rules s set kind n p d of (kernel_given rules (Advanced rules s.items (symbol_of kind n)) p d less ((c.2 p d).0 i))),
+      )
 
   lead_goes : Lead → AllByRecursion (λ (i : Item). GoesOn rules states kind edges i.production i.index) s.items
   lead_goes h =

@@ -1,9 +1,8 @@
 -- A walk over nonterminals marks those that a closure opens.
-use Rattle.std.proofs.Common.{◌≡◌, ◌↔◌, ◌⊎◌, inl, inr, ℕ, ◌+◌, ◌<◌, ◌≤◌, take, Option, Bool, true, false, List, [], ◌∷◌, ◌++◌, length, set, get_or, refl, arith, sym, ap, ◌∙◌, subst, Some, None, IsTrue, slice_get, length-set, get_or-set_same, get_or-set_other, ⊎_elim}
+use Rattle.std.proofs.Common.{◌≡◌, ◌↔◌, ◌⊎◌, inl, inr, ℕ, ◌+◌, ◌<◌, ◌≤◌, take, Option, Bool, true, false, List, [], ◌∷◌, ◌++◌, length, set, get_or, refl, arith, sym, ap, ◌∙◌, subst, Some, slice_get, length-set, get_or-set_same, get_or-set_other, ⊎_elim}
 use Rattle.std.specs.List.{Contains}
 use Rattle.std.proofs.lemmas.Bool.{cases_eq, cases_lt}
-use Rattle.std.proofs.lemmas.List.{get_or_past}
-use Rattle.std.proofs.lemmas.List.Elements.{Contains-append_left, Contains-append_cases, Contains-push, Contains-push_cases}
+use Rattle.std.proofs.lemmas.List.Elements.{Contains-append_left, Contains-push, Contains-push_cases}
 use Rattle.std.proofs.lemmas.Option.{slice_get_read, slice_get_within, get_or_from_slice_get}
 use Rattle.lp_repr.specs.Closure.{next_symbol, HasLeft}
 use Rattle.lp_repr.specs.declared.lr1.Item.{Item}

@@ -1,5 +1,5 @@
 -- The nonterminals that a closure opens: those before which a dot stands in it.
-use Rattle.std.specs.Prelude.{◌≡◌, ◌↔◌, ℕ, ◌<◌, Bool, false, List, Option, Some, IsTrue, slice_index_or}
+use Rattle.std.specs.Prelude.{◌≡◌, ◌↔◌, ℕ, ◌<◌, Bool, false, List, Some, IsTrue, slice_index_or}
 use Rattle.lp_repr.specs.Closure.{next_symbol, HasLeft, HasItem}
 use Rattle.lp_repr.specs.ValidTables.{IsClosureOf}
 use Rattle.lp_repr.specs.declared.lr1.Item.{Item}

@@ -1,5 +1,5 @@
 -- A walk over nonterminals that marks those it opened and keeps those that wait to be looked at.
-use Rattle.std.specs.Prelude.{◌≡◌, ◌⊎◌, ℕ, ◌<◌, Bool, true, false, List, [], length, slice_index_or}
+use Rattle.std.specs.Prelude.{◌≡◌, ◌⊎◌, ℕ, ◌<◌, Bool, true, false, [], length, slice_index_or}
 use Rattle.std.specs.List.{Contains}
 use Rattle.lp_tables.specs.declared.opened.Opened.{Opened}
 

@@ -14,7 +14,9 @@ use std::collections::BTreeMap;
 pub(crate) fn items_in_range(rules: &Rules, items: &[Item]) -> bool
     ensures { result ≡ list_all (λ item. is_dot rules.now.all.items item.production item.index) items.now }
 {
-    items.iter().all(|item| item_in_range(rules, item.production, item.index))
+    items
+        .iter()
+        .all(|item| item_in_range(rules, item.production, item.index))
 }
 
 fn item_in_range(rules: &Rules, production: usize, dot: usize) -> bool

@@ -13,11 +13,7 @@ use std::alloc::{AllocError, Global};
 use std::collections::BTreeSet;
 
 /// Whether only complete items are reduced.
-pub(crate) fn reduces_complete(
-    rules: &Rules,
-    set: &ItemSet,
-    state: &Lr1State,
-) -> bool
+pub(crate) fn reduces_complete(rules: &Rules, set: &ItemSet, state: &Lr1State) -> bool
     requires { IsSetOf state.now.items set.now }
     ensures { IsTrue result ↔ AllByRecursion (λ r. IsComplete rules.now.all.items state.now.items r.1) state.now.reductions }
 {

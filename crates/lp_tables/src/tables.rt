@@ -104,11 +104,7 @@ fn all_items(
     Ok(all)
 }
 
-fn state_items(
-    alloc: Global,
-    rules: &Rules,
-    state: &Lr1State,
-) -> Result<StateItems, AllocError>
+fn state_items(alloc: Global, rules: &Rules, state: &Lr1State) -> Result<StateItems, AllocError>
     requires { IsIndex rules.now.all.items rules.now.firsts.items }
     ensures { IfOk result (Describes rules.now.all.items state.now) }
 {

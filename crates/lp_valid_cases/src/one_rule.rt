@@ -5,8 +5,8 @@ use crate::parts::{
 };
 use lp_repr::Items;
 use lp_repr::repr::{
-    ActionFnDefn, Algorithm, Grammar, LrCodeGeneration, NonterminalData, NonterminalString,
-    Symbol, TerminalSet, TerminalString, TokenPattern, TypeRepr, Types,
+    ActionFnDefn, Algorithm, Grammar, LrCodeGeneration, NonterminalData, NonterminalString, Symbol,
+    TerminalSet, TerminalString, TokenPattern, TypeRepr, Types,
 };
 use std::alloc::{AllocError, Global};
 use std::collections::BTreeMap;
@@ -54,9 +54,7 @@ fn starts(alloc: Global) -> Result<BTreeMap<NonterminalString, NonterminalString
     Ok(starts)
 }
 
-fn nonterminals(
-    alloc: Global,
-) -> Result<BTreeMap<NonterminalString, NonterminalData>, AllocError> {
+fn nonterminals(alloc: Global) -> Result<BTreeMap<NonterminalString, NonterminalData>, AllocError> {
     let a = Symbol::Terminal(quoted(alloc, "a")?);
     let s = Symbol::Nonterminal(nonterminal(alloc, "S")?);
     let mut nonterminals = BTreeMap::new(alloc);

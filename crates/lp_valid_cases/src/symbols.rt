@@ -76,7 +76,10 @@ fn a_terminal_has_a_pattern(rt: HostRuntime) -> Result<(), Fail> {
 fn a_nonterminal_has_a_type(rt: HostRuntime) -> Result<(), Fail> {
     let alloc = rt.alloc();
     let mut broken = grammar(alloc)?;
-    broken.types.nonterminals.remove(&nonterminal(alloc, "__S")?);
+    broken
+        .types
+        .nonterminals
+        .remove(&nonterminal(alloc, "__S")?);
     refuses(&rt, alloc, &broken, 5, 2);
     Ok(())
 }

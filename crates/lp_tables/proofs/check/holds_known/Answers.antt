@@ -13,8 +13,8 @@ returns-then-items_in_range c =
     let s = c.args.state.now in
     let items : c.items_in_range.result ≡ list_all (λ (i : Item). is_dot rules i.production i.index) s.items = c.items_in_range.ensures ∙ ap (list_all (λ (i : Item). is_dot rules i.production i.index)) c.as_slice.ensures in
     let reductions : c.reductions_in_range.result ≡ list_all (is_reduction (length rules) t.terminals) s.reductions =
-      c.reductions_in_range.ensures
-      ∙ (ap (λ (n : ℕ). list_all (is_reduction n t.terminals) c.as_slice-then-items_in_range.result.now) (c.len.ensures ∙ t.rules.all.ok.0) ∙ ap (list_all (is_reduction (length rules) t.terminals)) c.as_slice-then-items_in_range.ensures) in
+    c.reductions_in_range.ensures
+    ∙ (ap (λ (n : ℕ). list_all (is_reduction n t.terminals) c.as_slice-then-items_in_range.result.now) (c.len.ensures ∙ t.rules.all.ok.0) ∙ ap (list_all (is_reduction (length rules) t.terminals)) c.as_slice-then-items_in_range.ensures) in
     let told = reductions_in (length rules) t.terminals s.reductions c.reductions_in_range.result reductions in
     (λ yes. record { items = (items_in rules s.items c.items_in_range.result items).0 c.if-items_in_range.true; reductions = told.0 yes }, λ h. told.1 h.reductions)
 

@@ -18,13 +18,13 @@ loop-item-preserved c =
     let at : slice_get items i ≡ Some x = slice_get_read items _ i x refl (omega arith) c.item-item.is in
     elim c.match-step.branch [
       | in-Some+in_ok-insert w ↦
-        let number = w.in-Some.number in
-        let next : number_after rules c.args.kind x.production x.index ≡ Some number = (step_some (number_after rules c.args.kind x.production x.index) (x.index + 1) number w.in-Some.field-0-1 (sym c.step.ensures ∙ w.in-Some.is)).0 in
-        subst (λ s. (n : ℕ) → IsTrue (contains nat_cmp s n) ↔ FollowsIn rules c.args.kind (take (i + 1) items) n) (sym w.after-is)
-        (after_more rules c.args.kind items i number x c.loop-item.after w.insert.new.self at next w.in_ok-insert.ensures.updates.0 c.loop-item.invariant)
+          let number = w.in-Some.number in
+          let next : number_after rules c.args.kind x.production x.index ≡ Some number = (step_some (number_after rules c.args.kind x.production x.index) (x.index + 1) number w.in-Some.field-0-1 (sym c.step.ensures ∙ w.in-Some.is)).0 in
+          subst (λ s. (n : ℕ) → IsTrue (contains nat_cmp s n) ↔ FollowsIn rules c.args.kind (take (i + 1) items) n) (sym w.after-is)
+          (after_more rules c.args.kind items i number x c.loop-item.after w.insert.new.self at next w.in_ok-insert.ensures.updates.0 c.loop-item.invariant)
       | in_default w ↦
-        let none : number_after rules c.args.kind x.production x.index ≡ None = step_none (number_after rules c.args.kind x.production x.index) (x.index + 1) (sym c.step.ensures ∙ w.in_default.is) in
-        subst (λ s. (n : ℕ) → IsTrue (contains nat_cmp s n) ↔ FollowsIn rules c.args.kind (take (i + 1) items) n) (sym w.after-is) (after_same rules c.args.kind items i x c.loop-item.after at none c.loop-item.invariant)
+          let none : number_after rules c.args.kind x.production x.index ≡ None = step_none (number_after rules c.args.kind x.production x.index) (x.index + 1) (sym c.step.ensures ∙ w.in_default.is) in
+          subst (λ s. (n : ℕ) → IsTrue (contains nat_cmp s n) ↔ FollowsIn rules c.args.kind (take (i + 1) items) n) (sym w.after-is) (after_same rules c.args.kind items i x c.loop-item.after at none c.loop-item.invariant)
     ]
 
 pub returns : goal.returns

@@ -5,7 +5,7 @@ use Rattle.std.specs.Ordering.{nat_cmp}
 use Rattle.std.proofs.lemmas.Bool.{false≢true}
 use Rattle.std.proofs.lemmas.Map.Iter.{rest_more, rest_all}
 use Rattle.lp_tables.proofs.Entries.{by_key}
-use Rattle.lp_tables.proofs.Lists.{rest_begins, rest_fails, rest_goes, rest_ends}
+use Rattle.lp_tables.proofs.Lists.{rest_fails, rest_goes, rest_ends}
 use Rattle.lp_tables.proofs.edges.all_follow.Goals as goal
 
 pub returns-then-not-contains : goal.returns-then-not-contains

@@ -1,4 +1,4 @@
-use Rattle.std.proofs.Common.{◌≡◌, ◌↔◌, ◌∙◌, ℕ, length, sym, subst, IsTrue}
+use Rattle.std.proofs.Common.{◌↔◌, ◌∙◌, length, subst, IsTrue}
 use Rattle.lp_tables.specs.Opening.{FollowsKernel, AreOpened, BeginsOpened}
 use Rattle.lp_tables.specs.Walk.{IsFresh, Marks}
 use Rattle.lp_tables.proofs.Closures.{closed_by_marks}

@@ -15,8 +15,8 @@ loop-item-preserved c =
     let at : slice_get items i ≡ Some x = slice_get_read items _ i x refl (omega arith) c.item-item.is in
     elim c.if-item-gt0.branch [
       | then-item-gt0+in_ok-open_next w ↦
-        subst (λ s. Marks c.args.self.now s (FollowsKernel rules (take (i + 1) items))) (sym w.self-is)
-        (kernel_step rules items i x c.args.self.now c.loop-item.self w.open_next.new.self w.next.result at (omega (arith, w.if-item-gt0.true)) w.next.ensures c.loop-item.invariant w.in_ok-open_next.ensures.marks)
+          subst (λ s. Marks c.args.self.now s (FollowsKernel rules (take (i + 1) items))) (sym w.self-is)
+          (kernel_step rules items i x c.args.self.now c.loop-item.self w.open_next.new.self w.next.result at (omega (arith, w.if-item-gt0.true)) w.next.ensures c.loop-item.invariant w.in_ok-open_next.ensures.marks)
       | else-item-gt0 w ↦
-        subst (λ s. Marks c.args.self.now s (FollowsKernel rules (take (i + 1) items))) (sym w.self-is) (kernel_same rules items i x c.args.self.now c.loop-item.self at (omega (arith, w.if-item-gt0.false)) c.loop-item.invariant)
+          subst (λ s. Marks c.args.self.now s (FollowsKernel rules (take (i + 1) items))) (sym w.self-is) (kernel_same rules items i x c.args.self.now c.loop-item.self at (omega (arith, w.if-item-gt0.false)) c.loop-item.invariant)
     ]

@@ -1,6 +1,5 @@
-use Rattle.std.proofs.Common.{sym, subst, ◌∙◌}
-use Rattle.lp_repr.specs.Numbering.{rules_of, firsts_from}
-use Rattle.std.specs.BTreeMap.{values}
+use Rattle.std.proofs.Common.{sym, subst}
+use Rattle.lp_repr.specs.Numbering.{rules_of}
 use Rattle.lp_tables.specs.Numbers.{IsIndex}
 use Rattle.lp_tables.proofs.Index.{is_index}
 use Rattle.lp_tables.proofs.rules.Rules.new.Goals as goal

@@ -1,4 +1,4 @@
-use Rattle.std.proofs.Common.{◌≡◌, ◌∙◌, ◌+◌, ◌<◌, ◌≤◌, length, refl, ap, sym, subst, arith, inl, inr, Some, None, slice_get}
+use Rattle.std.proofs.Common.{◌≡◌, ◌+◌, ◌≤◌, length, refl, subst, arith, inl, inr, Some, slice_get}
 use Rattle.std.proofs.lemmas.Option.{slice_get_read, slice_get_past}
 use Rattle.lp_tables.proofs.Index.{none_of, these_of}
 use Rattle.lp_tables.proofs.rules.Rules.productions_of.Goals as goal
