@@ -9,7 +9,7 @@ use Rattle.lp_valid.specs.ValidGrammar.{IsValidGrammar}
 use Rattle.lp_valid.specs.declared.grammars.GrammarFault.TheVariants.{Rule}
 use Rattle.lp_write.specs.Sinks.{Told, Broke}
 use Rattle.lp_emit.specs.Clashes.{HasNoClash, IsLeastClash}
-use Rattle.lp_emit.specs.Lists.{AreListed, IsTableFailure}
+use Rattle.lp_emit.specs.Lists.{AreTabled, IsTableFailure}
 use Rattle.lp_emit.specs.declared.errors.EmitError.{EmitError}
 use Rattle.lp_emit.specs.declared.errors.EmitError.TheVariants.{NoStart, Unsupported, BadGrammar, RecoveryInAscent, NameClash, TooMany, BadTables, BadText, WriteFault, Memory}
 
@@ -64,7 +64,7 @@ pub record IsBuildable (g : Grammar) (states : List StartStates) : Type 0 where
 -- none of the causes that are stated holds
 pub record MayBeEmitted (g : Grammar) (states : List StartStates) : Type 0 where
   pub buildable : IsBuildable g states
-  pub listed : AreListed g states
+  pub tabled : AreTabled g states
 
 -- what each refusal tells of the grammar and its states: its cause, and that no earlier one holds
 abbrev pub Refuses : Grammar → List StartStates → EmitError → Type 0

@@ -1,10 +1,11 @@
 //! The causes for which no text is emitted, in their order.
 
-ghost use Rattle.std.specs.Prelude.{◌≡◌, ℕ, ◌<◌, ◌↔◌, Some, IsTrue, MatchResult, IfOk, IfErr, length, map, slice_get};
+ghost use Rattle.std.specs.Prelude.{◌≡◌, ℕ, ◌<◌, ◌↔◌, Some, IsTrue, MatchResult, IfOk, IfErr, map, slice_get};
 ghost use Rattle.std.specs.Map.Iter.{deref};
 ghost use Rattle.std.specs.BTreeMap.{keys};
+ghost use Rattle.lp_repr.specs.ValidTables.{IsValidTables};
 ghost use Rattle.lp_emit.specs.Causes.{IsBuildable, IsByAscent, IsSound, IsSupported, MayBeEmitted, Refuses, RefusesAlways, SuitsAscent, greatest_of};
-ghost use Rattle.lp_emit.specs.Lists.{AreListed, HasItsList, IsListed};
+ghost use Rattle.lp_emit.specs.Lists.{AreTabled, HasItsList, IsTabled};
 ghost use Rattle.lp_emit.specs.Steps.{IsOfTexts, RefusesLists, RefusesStates};
 
 use crate::clash::name_clash;
@@ -13,7 +14,8 @@ use lp_program::check_texts::{TextFault, check_texts};
 use lp_repr::numbering::production_count;
 use lp_repr::repr::{Grammar, LrCodeGeneration, NonterminalString};
 use lp_repr::{Lr1State, StartStates};
-use lp_valid::{GrammarFault, TableFault, check_grammar, check_tables};
+use lp_tables::{TableFault, check_tables};
+use lp_valid::{GrammarFault, check_grammar};
 use std::alloc::{AllocError, Global};
 
 /// The most states of a start, and the most productions.
@@ -111,7 +113,7 @@ fn greatest_count(number: usize, states: &[StartStates]) -> usize
 /// There is one list of states per start, in key order and under its name, and its tables are
 /// valid.
 fn check_lists(alloc: Global, grammar: &Grammar, states: &[StartStates]) -> Result<(), EmitError>
-    ensures { MatchResult result (λ _. AreListed grammar.now states.now) (RefusesLists grammar.now states.now) }
+    ensures { MatchResult result (λ _. AreTabled grammar.now states.now) (RefusesLists grammar.now states.now) }
 {
     let names = start_names(alloc, grammar)?;
     for (start, name) in names.iter().enumerate() {
@@ -139,8 +141,8 @@ fn check_list(
     name: &NonterminalString,
 ) -> Result<(), EmitError>
     requires named { slice_get (keys grammar.now.start_nonterminals) start ≡ Some name.now }
-    requires earlier { (k : ℕ) → k < start → IsListed grammar.now states.now k }
-    ensures { MatchResult result (λ _. IsListed grammar.now states.now start) (RefusesLists grammar.now states.now) }
+    requires earlier { (k : ℕ) → k < start → IsTabled grammar.now states.now k }
+    ensures { MatchResult result (λ _. IsTabled grammar.now states.now start) (RefusesLists grammar.now states.now) }
 {
     let Some(list) = states.get(start) else {
         return Err(no_list(start));
@@ -165,8 +167,7 @@ fn check_states(
     start: usize,
     states: &[Lr1State],
 ) -> Result<(), EmitError>
-    requires { 0 < length states.now }
-    ensures { IfErr result (RefusesStates start states.now) }
+    ensures { MatchResult result (λ _. IsValidTables grammar.now start states.now) (RefusesStates grammar.now start states.now) }
 {
     match check_tables(alloc, grammar, start, states) {
         Ok(()) => Ok(()),

@@ -1,6 +1,6 @@
 use Rattle.std.proofs.Common.{ℕ, ◌<◌}
-use Rattle.lp_emit.specs.Lists.{IsListed}
+use Rattle.lp_emit.specs.Lists.{IsTabled}
 use Rattle.lp_emit.proofs.checks.check_lists.Given as goal
 
 abbrev pub invariant-loop-start : goal.invariant-loop-start
-invariant-loop-start l = (k : ℕ) → k < l.start → IsListed l.grammar l.states k
+invariant-loop-start l = (k : ℕ) → k < l.start → IsTabled l.grammar l.states k

@@ -1,0 +1,13 @@
+pub mod Lists
+pub mod Items
+pub mod Sets
+pub mod Entries
+pub mod Index
+pub mod Walks
+pub mod Closures
+pub mod Targets
+pub mod Once
+pub mod LeastRule
+pub mod Described
+pub mod Following
+pub mod RangeTests

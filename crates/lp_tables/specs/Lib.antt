@@ -1,0 +1,10 @@
+pub mod Numbers
+pub mod ItemSets
+pub mod Opening
+pub mod Walk
+pub mod Edges
+pub mod Ranges
+pub mod Reductions
+pub mod Gathering
+pub mod TableRules
+pub mod Refusals
