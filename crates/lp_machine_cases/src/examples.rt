@@ -1,6 +1,8 @@
 //! Grammars of worked examples, with their states.
 
-use crate::tables::{Example, Row, Sign, grammar, inline, look, user, with_parameter, with_states};
+use crate::tables::{
+    Example, Row, Sign, grammar, inline, look, user, with_parameters, with_states,
+};
 use lp_repr::lr1::Token;
 use lp_repr::repr::{ActionFnDefn, LookaroundActionFn};
 use std::alloc::{AllocError, Global};
@@ -62,6 +64,7 @@ const ONE_TOKEN_STATES: &[Row] = &[
 fn token_and(alloc: Global, rows: &[Row]) -> Result<Example, AllocError> {
     let grammar = grammar(
         alloc,
+        &[],
         &[("a", "Tok::A")],
         false,
         &[("S", &[(A, 1)]), ("__S", &[(S, 0)])],
@@ -103,6 +106,7 @@ const EMPTY_STATES: &[Row] = &[(&[], &[(0, 1)], &[(EOF, 0)]), (&[], &[], &[(EOF,
 pub fn empty(alloc: Global) -> Result<Example, AllocError> {
     let grammar = grammar(
         alloc,
+        &[],
         TWO,
         false,
         &[("S", &[(&[], 1)]), ("__S", &[(S, 0)])],
@@ -146,6 +150,7 @@ const EXPRESSIONS_STATES: &[Row] = &[
 pub fn expressions(alloc: Global) -> Result<Example, AllocError> {
     let grammar = grammar(
         alloc,
+        &[],
         &[
             ("-", "Tok::Minus"),
             ("N", "Tok::N"),
@@ -177,6 +182,7 @@ pub fn looks_between(alloc: Global) -> Result<Example, AllocError> {
     actions.push(inline(alloc, 3, &[Ok("a"), Err(1), Err(2), Ok("b")])?)?;
     let grammar = grammar(
         alloc,
+        &[],
         TWO,
         false,
         &[("S", &[(AB, 4)]), ("__S", &[(S, 0)])],
@@ -199,6 +205,7 @@ pub fn looks_at_ends(alloc: Global) -> Result<Example, AllocError> {
     actions.push(inline(alloc, 3, &[Ok("a"), Err(2)])?)?;
     let grammar = grammar(
         alloc,
+        &[],
         TWO,
         false,
         &[("S", &[(B, 4), (A, 5)]), ("__S", &[(S, 0)])],
@@ -218,6 +225,7 @@ const EMPTY_BEFORE_STATES: &[Row] = &[
 pub fn empty_before(alloc: Global) -> Result<Example, AllocError> {
     let grammar = grammar(
         alloc,
+        &[],
         TWO,
         false,
         &[("S", &[(XA, 1)]), ("X", &[(&[], 1)]), ("__S", &[(S, 0)])],
@@ -239,6 +247,7 @@ const ENDLESS_STATES: &[Row] = &[
 pub fn endless(alloc: Global) -> Result<Example, AllocError> {
     let grammar = grammar(
         alloc,
+        &[],
         THREE,
         false,
         &[
@@ -295,6 +304,7 @@ pub fn calculator(alloc: Global) -> Result<Example, AllocError> {
     let actions = calculator_actions(alloc)?;
     let grammar = grammar(
         alloc,
+        &["scale"],
         &[("+", "Tok::Plus"), ("N", "Tok::Num(_)"), ("/", "Tok::Div")],
         false,
         &[
@@ -304,6 +314,5 @@ pub fn calculator(alloc: Global) -> Result<Example, AllocError> {
         ],
         actions,
     )?;
-    let example = with_states(alloc, grammar, CALCULATOR_STATES)?;
-    with_parameter(alloc, example, "scale")
+    with_parameters(alloc, grammar, CALCULATOR_STATES, &["scale"])
 }

@@ -45,6 +45,7 @@ const TOKEN_STATES: &[Row] = &[
 pub fn token_or_error(alloc: Global) -> Result<Example, AllocError> {
     let grammar = grammar(
         alloc,
+        &[],
         TWO,
         true,
         &[("S", &[(A, 1), (ERROR, 1)]), ("__S", &[(S, 0)])],
@@ -65,6 +66,7 @@ const BETWEEN_STATES: &[Row] = &[
 pub fn error_between(alloc: Global) -> Result<Example, AllocError> {
     let grammar = grammar(
         alloc,
+        &[],
         TWO,
         true,
         &[("S", &[(BETWEEN, 1)]), ("__S", &[(S, 0)])],
@@ -87,6 +89,7 @@ const NESTED_STATES: &[Row] = &[
 pub fn nested(alloc: Global) -> Result<Example, AllocError> {
     let grammar = grammar(
         alloc,
+        &[],
         THREE,
         true,
         &[
@@ -109,6 +112,7 @@ const REDUCED_STATES: &[Row] = &[
 pub fn reduced_on_error(alloc: Global) -> Result<Example, AllocError> {
     let grammar = grammar(
         alloc,
+        &[],
         TWO,
         true,
         &[

@@ -217,15 +217,28 @@ fn types(alloc: Global) -> Types {
     }
 }
 
-/// A grammar of the start S, without parameters: each terminal has a name and the form of its tokens; the error
-/// terminal, where errors are mended, comes after these.
+fn parameters(alloc: Global, names: &[&str]) -> Result<Items<Parameter>, AllocError> {
+    let mut all = Vec::new(alloc);
+    for name in names {
+        all.push(Parameter {
+            name: Text::from_str(alloc, name)?,
+            ty: unit(alloc),
+        })?;
+    }
+    Ok(Items(all))
+}
+
+/// A grammar of the start S, with these parameters: each terminal has a name and the form of its tokens;
+/// the error terminal, where errors are mended, comes after these.
 pub fn grammar(
     alloc: Global,
+    params: &[&str],
     terminals: &[(&str, &str)],
     mends: bool,
     rules: &[Rules],
     actions: Vec<ActionFnDefn>,
 ) -> Result<Grammar, AllocError> {
+    let parameters = parameters(alloc, params)?;
     let all = terminals_of(alloc, terminals, mends)?;
     let conversions = conversions(alloc, terminals)?;
     let nonterminals = nonterminals(alloc, rules)?;
@@ -241,7 +254,7 @@ pub fn grammar(
         start_nonterminals,
         uses: Items::new(alloc),
         type_parameters: Items::new(alloc),
-        parameters: Items::new(alloc),
+        parameters,
         where_clauses: Items::new(alloc),
         intern_token: None,
         action_fn_defns: Items(actions),
@@ -290,23 +303,31 @@ fn states(alloc: Global, rows: &[Row]) -> Result<Vec<Lr1State>, AllocError> {
     Ok(states)
 }
 
-/// A grammar without parameters, with the states of these rows.
-pub fn with_states(alloc: Global, grammar: Grammar, rows: &[Row]) -> Result<Example, AllocError> {
+fn texts(alloc: Global, names: &[&str]) -> Result<Vec<Text>, AllocError> {
+    let mut texts = Vec::new(alloc);
+    for name in names {
+        texts.push(Text::from_str(alloc, name)?)?;
+    }
+    Ok(texts)
+}
+
+/// A grammar with the states of these rows; the value of each parameter has its name.
+pub fn with_parameters(
+    alloc: Global,
+    grammar: Grammar,
+    rows: &[Row],
+    params: &[&str],
+) -> Result<Example, AllocError> {
     let states = states(alloc, rows)?;
+    let params = texts(alloc, params)?;
     Ok(Example {
         grammar,
         states,
-        params: Vec::new(alloc),
+        params,
     })
 }
 
-/// The same with one parameter more, whose value has its name.
-pub fn with_parameter(alloc: Global, example: Example, text: &str) -> Result<Example, AllocError> {
-    let mut example = example;
-    example.grammar.parameters.0.push(Parameter {
-        name: Text::from_str(alloc, text)?,
-        ty: unit(alloc),
-    })?;
-    example.params.push(Text::from_str(alloc, text)?)?;
-    Ok(example)
+/// A grammar without parameters, with the states of these rows.
+pub fn with_states(alloc: Global, grammar: Grammar, rows: &[Row]) -> Result<Example, AllocError> {
+    with_parameters(alloc, grammar, rows, &[])
 }
