@@ -1,9 +1,6 @@
 //! The program: a grammar file on standard input, its parser text and runs on standard output.
 #![tactic(auto)]
 
-#[cfg(test)]
-mod tests;
-
 use lp_repr::Text;
 use lp_tool::{Status, run_tool, status_line};
 use lp_write::{StdinSource, StdoutSink};

@@ -1,0 +1,74 @@
+//! Stored calls. A file begins with a line on its subject. Each call begins, behind an empty line, with a
+//! line `== NAME` and the line of its words. Then stand its parts, each behind a line `-- PART`:
+//!
+//! - `file`: the source's text;
+//! - `answers`: the answer, as `told` puts it;
+//! - `begins`: the lines with which the output begins;
+//! - `writes`: lines that stand in the output one after another.
+
+use std::alloc::{AllocError, Global};
+
+/// A call, and what is wanted of it.
+#[derive(Drop)]
+pub struct Case<'t> {
+    pub name: &'t str,
+    /// The words, with blanks between.
+    pub words: &'t str,
+    pub file: &'t str,
+    pub wants: Vec<Want<'t>>,
+}
+
+/// What is wanted of a call.
+#[derive(Clone, Copy)]
+pub enum Want<'t> {
+    Answers(&'t str),
+    Begins(&'t str),
+    Writes(&'t str),
+    /// A part of another name.
+    Unknown,
+}
+
+/// The calls of a file, in order.
+pub fn read_cases(alloc: Global, text: &str) -> Result<Vec<Case<'_>>, AllocError> {
+    let mut cases = Vec::new(alloc);
+    for call in text.split("\n\n== ").skip(1) {
+        cases.push(read_case(alloc, call)?)?;
+    }
+    Ok(cases)
+}
+
+fn read_case(alloc: Global, call: &str) -> Result<Case<'_>, AllocError> {
+    let (name, rest) = first_line(call);
+    let mut parts = rest.split("\n-- ");
+    let mut case = Case {
+        name,
+        words: parts.next().unwrap_or(""),
+        file: "",
+        wants: Vec::new(alloc),
+    };
+    for part in parts {
+        let (kind, content) = first_line(part);
+        match kind {
+            "file" => case.file = content,
+            _ => case.wants.push(wanted(kind, content))?,
+        }
+    }
+    Ok(case)
+}
+
+fn wanted<'t>(kind: &str, content: &'t str) -> Want<'t> {
+    match kind {
+        "answers" => Want::Answers(content),
+        "begins" => Want::Begins(content),
+        "writes" => Want::Writes(content),
+        _ => Want::Unknown,
+    }
+}
+
+/// The first line, and what follows it but the line ends at the end.
+fn first_line(text: &str) -> (&str, &str) {
+    match text.split_once('\n') {
+        Some((line, rest)) => (line, rest.trim_end_matches('\n')),
+        None => (text, ""),
+    }
+}

@@ -1,0 +1,103 @@
+//! Worked examples: what the tool answers and writes of each stored call is what is stored with it.
+//!
+//! `data` has the calls, one subject a file; `cases` says how they are written down.
+#![tactic(auto)]
+
+mod cases;
+mod faults;
+mod told;
+
+use crate::cases::{Case, Want, read_cases};
+use crate::faults::fault_lines;
+use crate::told::told;
+use lp_repr::Text;
+use lp_tool::{Report, Status, run_tool};
+use lp_write::{MemorySink, MemorySource};
+use std::alloc::{AllocError, Global};
+use std::rt::Files;
+use std::{fs, io};
+
+/// The files of calls.
+const FILES: [&str; 6] = [
+    "runs.txt",
+    "ascent.txt",
+    "recovery.txt",
+    "refusals.txt",
+    "texts.txt",
+    "generated.txt",
+];
+
+/// More bytes than any example writes.
+const ROOM: usize = 1_000_000;
+
+fn main(rt: HostRuntime) -> io::Result<()> {
+    for name in FILES {
+        run_file(&rt, name)?;
+    }
+    let calculator = fs::read(&rt, "calculator.lp")?;
+    for line in fault_lines(rt.alloc(), calculator.as_slice())?.as_slice() {
+        rt.println(line.as_str())?;
+    }
+    Ok(())
+}
+
+/// Makes the calls of a file, and prints a line for each.
+fn run_file(rt: &(impl Files + Print + AllocGlobal), name: &str) -> io::Result<()> {
+    let text = fs::read_to_string(rt, name)?;
+    for case in read_cases(rt.alloc(), text.as_str())?.as_slice() {
+        let line = verdict(rt.alloc(), case)?;
+        rt.println(line.as_str())?;
+    }
+    Ok(())
+}
+
+/// Whether a call's answer is the one that is stored.
+fn verdict(alloc: Global, case: &Case<'_>) -> Result<String, AllocError> {
+    let name = case.name;
+    let (report, output) = answer_of(alloc, case)?;
+    let answer = told(alloc, &report)?;
+    let text = match std::str::from_utf8(output.as_slice()) {
+        Ok(text) => format!(in alloc; "\n{text}")?,
+        Err(_) => return format!(in alloc; "{name}: wrote no text"),
+    };
+    if case.wants.is_empty() || !is_fitting(&report.status, output.as_slice()) {
+        return format!(in alloc; "{name}: answers {answer}");
+    }
+    for want in case.wants.as_slice() {
+        if !meets(alloc, want, answer.as_str(), text.as_str())? {
+            return format!(in alloc; "{name}: differs, and answers {answer}");
+        }
+    }
+    format!(in alloc; "{name}: as stored")
+}
+
+/// Something was written exactly where all was done.
+fn is_fitting(status: &Status, output: &[u8]) -> bool {
+    match status {
+        Status::Done => !output.is_empty(),
+        _ => output.is_empty(),
+    }
+}
+
+/// Whether the answer, and the text behind a line end, are what is wanted.
+fn meets(alloc: Global, want: &Want<'_>, answer: &str, text: &str) -> Result<bool, AllocError> {
+    Ok(match want {
+        Want::Answers(line) => answer == *line,
+        Want::Begins(lines) => text.starts_with(format!(in alloc; "\n{lines}\n")?.as_str()),
+        Want::Writes(lines) => text.contains(format!(in alloc; "\n{lines}\n")?.as_str()),
+        Want::Unknown => false,
+    })
+}
+
+/// What a call answers, and what it writes.
+fn answer_of(alloc: Global, case: &Case<'_>) -> Result<(Report, Vec<u8>), AllocError> {
+    let mut words = Vec::new(alloc);
+    for word in case.words.split_whitespace() {
+        words.push(Text::from_str(alloc, word)?)?;
+    }
+    let file = Vec::from_slice(alloc, case.file.as_bytes())?;
+    let mut source = MemorySource::new(file, 4096, Vec::new(alloc));
+    let mut sink = MemorySink::new(alloc, ROOM, 65_536, Vec::new(alloc))?;
+    let report = run_tool(alloc, words.as_slice(), &mut source, &mut sink);
+    Ok((report, sink.into_bytes()))
+}
