@@ -1,148 +1,129 @@
-//! Runs of the machine and of a driver, shown as texts.
+//! Whether what is shown of a run is what is wanted.
 
-use crate::tables::Example;
-use lp_driver::{Event, Expecting, Loc, Outcome, RunError, RunItem, Stop, TokenValue, drive};
-use lp_machine::compiled::Compiled;
-use lp_machine::events::events_of;
-use lp_machine::{Machine, TableDefinition};
-use lp_repr::text::{Items, Text};
+use crate::cases::{Case, Part, read_part};
+use crate::items::{long_number, long_numbers, read_items};
+use crate::shows::{Run, driver_shows, machine_shows, machine_steps};
+use crate::tables::{Example, values};
+use lp_driver::Expecting;
 use std::alloc::{AllocError, Global};
-use std::fmt::Write;
 
-/// An item: a token's form and its place, a number of the calculator, or a fault.
-#[derive(Clone, Copy)]
-pub enum Given {
-    Token(&'static str, u64, u64),
-    Number(&'static str, u64, u64),
-    Fault(&'static str),
-}
-
-/// Items, calls that are to fail, and the events and the outcome, a line each.
-pub type Run = (&'static [Given], &'static [u64], &'static str);
-
-fn token(alloc: Global, form: &str, start: u64, end: u64) -> Result<RunItem, AllocError> {
-    let value = TokenValue {
-        form: Text::from_str(alloc, form)?,
-        payloads: Items::new(alloc),
-    };
-    Ok(RunItem::Token(Loc::At(start), value, Loc::At(end)))
-}
-
-fn number(alloc: Global, text: &str, start: u64, end: u64) -> Result<RunItem, AllocError> {
-    let value = TokenValue {
-        form: Text::from_str(alloc, "Tok::Num(_)")?,
-        payloads: Items(vec![in alloc; Text::from_str(alloc, text)?]?),
-    };
-    Ok(RunItem::Token(Loc::At(start), value, Loc::At(end)))
-}
-
-fn item(alloc: Global, given: Given) -> Result<RunItem, AllocError> {
-    match given {
-        Given::Token(form, start, end) => token(alloc, form, start, end),
-        Given::Number(text, start, end) => number(alloc, text, start, end),
-        Given::Fault(name) => Ok(RunItem::Fault(Text::from_str(alloc, name)?)),
+/// A line on a stored run: whether all that is wanted of it is shown, at each kind of expected lists.
+pub fn verdict(alloc: Global, example: &Example, case: Case<'_>) -> Result<String, AllocError> {
+    let name = case.name;
+    let run = read_run(alloc, example, case)?;
+    if !wants(case) || lists(case.words).is_none() {
+        return format!(in alloc; "{name}: wants nothing");
     }
-}
-
-pub fn items(alloc: Global, all: &[Given]) -> Result<Vec<RunItem>, AllocError> {
-    let mut items = Vec::new(alloc);
-    for given in all {
-        items.push(item(alloc, *given)?)?;
-    }
-    Ok(items)
-}
-
-// The events, a line each.
-fn lines(alloc: Global, events: &[Event]) -> Result<String, AllocError> {
-    let mut text = String::new(alloc);
-    for event in events {
-        writeln!(text, "{event}")?;
-    }
-    Ok(text)
-}
-
-/// What the machine shows after at most so many moves.
-pub fn machine_shows(
-    alloc: Global,
-    example: &Example,
-    expecting: Expecting,
-    items: &[RunItem],
-    failing: &[u64],
-    moves: u64,
-) -> Result<String, RunError> {
-    let machine = Machine::new(
-        alloc,
-        &example.grammar,
-        &example.states,
-        expecting,
-        items,
-        &example.params,
-        failing,
-    )?;
-    let run = machine.run(moves)?;
-    let mut text = lines(alloc, &run.events)?;
-    write!(text, "{}", run.outcome)?;
-    Ok(text)
-}
-
-// How a driver's run ended.
-fn write_end(text: &mut String, outcome: Result<Outcome, Stop>) -> Result<(), RunError> {
-    match outcome {
-        Ok(outcome) => write!(text, "{outcome}")?,
-        Err(Stop::Spent) => text.push_str("spent")?,
-        Err(Stop::Stuck) => text.push_str("stuck")?,
-        Err(Stop::Memory) => return Err(RunError::Memory),
-    }
-    Ok(())
-}
-
-/// What a driver over a definition by tables shows after at most so many steps.
-pub fn driver_shows(
-    alloc: Global,
-    example: &Example,
-    expecting: Expecting,
-    items: &[RunItem],
-    failing: &[u64],
-    steps: u64,
-) -> Result<String, RunError> {
-    let tables = Compiled::new(
-        alloc,
-        &example.grammar,
-        &example.states,
-        expecting,
-        &example.params,
-        failing,
-    )?;
-    let mut definition = TableDefinition::new(tables, steps);
-    let outcome = drive(alloc, &mut definition, items);
-    let events = events_of(alloc, definition.calls)?;
-    let mut text = lines(alloc, &events)?;
-    write_end(&mut text, outcome)?;
-    Ok(text)
-}
-
-/// Whether both come to this.
-pub fn comes_to(
-    alloc: Global,
-    example: &Example,
-    expecting: Expecting,
-    run: Run,
-) -> Result<bool, RunError> {
-    let (given, failing, wanted) = run;
-    let items = items(alloc, given)?;
-    let moved = machine_shows(alloc, example, expecting, &items, failing, 1000)?;
-    let driven = driver_shows(alloc, example, expecting, &items, failing, 1000)?;
-    Ok(moved.as_str() == wanted && driven.as_str() == wanted)
-}
-
-/// Whether both come to this, with both kinds of expected lists, at each of the runs.
-pub fn runs_as(alloc: Global, example: &Example, runs: &[Run]) -> Result<bool, RunError> {
-    for run in runs {
-        let tried = comes_to(alloc, example, Expecting::Trial, *run)?;
-        let listed = comes_to(alloc, example, Expecting::Actions, *run)?;
-        if !tried || !listed {
-            return Ok(false);
+    for expecting in [Expecting::Trial, Expecting::Actions] {
+        if let Some(shown) = differing(alloc, example, case, expecting, &run)? {
+            return format!(in alloc; "{name}: differs, and shows {shown}");
         }
     }
-    Ok(true)
+    format!(in alloc; "{name}: as stored")
+}
+
+// Whether something is wanted.
+fn wants(case: Case<'_>) -> bool {
+    ["shows", "machine", "driver", "stepped"]
+        .iter()
+        .any(|kind| case.part(kind).is_some())
+}
+
+fn read_run(alloc: Global, example: &Example, case: Case<'_>) -> Result<Run, AllocError> {
+    let mut words = case.words.split_whitespace().skip(1);
+    let moves = long_number(words.next().unwrap_or(""));
+    let steps = long_number(words.next().unwrap_or(""));
+    let items = read_items(alloc, case.part("items").unwrap_or(""))?;
+    let fails = long_numbers(alloc, case.part("fails").unwrap_or(""))?;
+    let values = values(alloc, &example.grammar, case.part("parameters"))?;
+    Ok(Run {
+        items,
+        fails,
+        values,
+        moves,
+        steps,
+    })
+}
+
+/// Which kinds of expected lists a run is made with.
+#[derive(Clone, Copy)]
+struct Lists {
+    trial: bool,
+    actions: bool,
+}
+
+fn lists(words: &str) -> Option<Lists> {
+    let (trial, actions) = match words.split_once(' ') {
+        Some(("both", _)) => (true, true),
+        Some(("trial", _)) => (true, false),
+        Some(("actions", _)) => (false, true),
+        _ => return None,
+    };
+    Some(Lists { trial, actions })
+}
+
+fn is_made(words: &str, expecting: Expecting) -> bool {
+    match (lists(words), expecting) {
+        (Some(lists), Expecting::Trial) => lists.trial,
+        (Some(lists), Expecting::Actions) => lists.actions,
+        (None, _) => false,
+    }
+}
+
+// What is shown in place of something that is wanted.
+fn differing(
+    alloc: Global,
+    example: &Example,
+    case: Case<'_>,
+    expecting: Expecting,
+    run: &Run,
+) -> Result<Option<String>, AllocError> {
+    if !is_made(case.words, expecting) {
+        return Ok(None);
+    }
+    for text in case.rest.split("\n-- ").skip(1) {
+        if let Some(shown) = other_than(alloc, example, expecting, run, read_part(text))? {
+            return Ok(Some(shown));
+        }
+    }
+    Ok(None)
+}
+
+fn other_than(
+    alloc: Global,
+    example: &Example,
+    expecting: Expecting,
+    run: &Run,
+    part: Part<'_>,
+) -> Result<Option<String>, AllocError> {
+    let text = part.content;
+    match part.kind {
+        "items" | "fails" | "parameters" => Ok(None),
+        "shows" => both(alloc, example, expecting, run, text),
+        "machine" => Ok(unlike(machine_shows(alloc, example, expecting, run)?, text)),
+        "driver" => Ok(unlike(driver_shows(alloc, example, expecting, run)?, text)),
+        "stepped" => Ok(unlike(machine_steps(alloc, example, expecting, run)?, text)),
+        _ => Ok(Some(String::from_str(alloc, "a part of another name")?)),
+    }
+}
+
+fn both(
+    alloc: Global,
+    example: &Example,
+    expecting: Expecting,
+    run: &Run,
+    text: &str,
+) -> Result<Option<String>, AllocError> {
+    match unlike(machine_shows(alloc, example, expecting, run)?, text) {
+        Some(shown) => Ok(Some(shown)),
+        None => Ok(unlike(driver_shows(alloc, example, expecting, run)?, text)),
+    }
+}
+
+fn unlike(shown: String, text: &str) -> Option<String> {
+    if shown.as_str() == text {
+        None
+    } else {
+        Some(shown)
+    }
 }
