@@ -1,8 +1,8 @@
 //! Terminals, actions and rules, a line each.
 //!
 //! - `terminal NAME FORM`: a terminal, and the form of its tokens, with a hole at its `_`;
-//! - `action CODE`, `fallible CODE`, `lookahead`, `lookbehind`, `inline ACTION PART..`: an action. A part
-//!   is a terminal, or the number of an inlined action over no symbols;
+//! - `action CODE`, `fallible CODE`, `lookahead`, `lookbehind`, `inline ACTION PART..`: an action. Code may
+//!   be left out. A part is a terminal, or the number of an inlined action over no symbols;
 //! - `rule NAME = ACTION SYMBOL.. | ..`: a nonterminal and its productions. A symbol is a terminal after
 //!   `'`, the error terminal `!`, or a nonterminal.
 

@@ -24,9 +24,12 @@ pub fn verdict(alloc: Global, example: &Example, case: Case<'_>) -> Result<Strin
 
 // Whether something is wanted.
 fn wants(case: Case<'_>) -> bool {
-    ["shows", "machine", "driver", "stepped"]
-        .iter()
-        .any(|kind| case.part(kind).is_some())
+    for kind in ["shows", "machine", "driver", "stepped"] {
+        if case.part(kind).is_some() {
+            return true;
+        }
+    }
+    false
 }
 
 fn read_run(alloc: Global, example: &Example, case: Case<'_>) -> Result<Run, AllocError> {

@@ -124,9 +124,13 @@ pub fn driver_shows(
 fn driven(alloc: Global, tables: Compiled<'_>, run: &Run) -> Result<String, AllocError> {
     let mut definition = TableDefinition::new(tables, run.steps);
     let end = drive(alloc, &mut definition, run.items.as_slice());
+    with_end(called(alloc, definition)?, end)
+}
+
+// The calls that it has made, a line each.
+fn called(alloc: Global, definition: TableDefinition<'_>) -> Result<String, AllocError> {
     let events = events_of(alloc, definition.calls)?;
-    let text = lines(alloc, events.as_slice())?;
-    with_end(text, end)
+    lines(alloc, events.as_slice())
 }
 
 fn with_end(text: String, end: Result<Outcome, Stop>) -> Result<String, AllocError> {
