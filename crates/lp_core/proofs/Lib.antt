@@ -7,3 +7,4 @@ pub mod Longer
 pub mod Bodies
 pub mod Lists
 pub mod CallEnds
+pub mod Cells

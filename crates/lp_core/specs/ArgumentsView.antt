@@ -1,6 +1,6 @@
 -- The arguments that a call is made with.
 use Rattle.std.specs.Prelude.{map}
-use Rattle.lp_core.specs.declared.call.CallArguments.{CallArguments}
+use Rattle.lp_core.specs.declared.events.CallArguments.{CallArguments}
 use Rattle.lp_core.specs.Store.{spanned_value}
 use Rattle.lp_core.specs.CallMeaning.{Arguments}
 

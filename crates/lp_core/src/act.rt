@@ -13,7 +13,9 @@ use crate::cell::{Cell, typed};
 use crate::copies::{copied_text, copied_value};
 use crate::expr::{Leaf, Op, Table};
 use crate::numbers::{as_index, is_positive, is_zero, negated, predecessor, successor};
-use crate::slots::{change_cell, copy_states, done, given, new_cell, read, take, write, write_parts};
+use crate::slots::{
+    change_cell, copy_states, done, given, new_cell, read, take, write, write_parts,
+};
 use crate::value::{Atom, Tag, Value};
 use crate::world::{Done, Setting, World};
 use lp_repr::Text;

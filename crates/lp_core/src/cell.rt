@@ -3,9 +3,8 @@
 ghost use Rattle.std.specs.Prelude.{◌≡◌, Some, None, IfOk, MatchOption, MatchBool, is_none};
 ghost use Rattle.std.specs.Option.{option_map, option_and_then, option_copied};
 ghost use Rattle.lp_core.specs.Effect.{unit};
-ghost use Rattle.lp_core.specs.declared.expr.Op.TheVariants as op;
 ghost use Rattle.lp_core.specs.Reading.{spanned_val, option_val};
-ghost use Rattle.lp_core.specs.Numbers.{typed};
+ghost use Rattle.lp_core.specs.Numbers.{index, typed};
 ghost use Rattle.lp_core.specs.Store.{held, States};
 ghost use Rattle.lp_core.specs.CellMeaning.{last_in, without_last, length_of, popped, last_of, top_of, state_at, states_in, shortened, cut_to, taken_out, read_in, emptiness, pushed, cell_change};
 
@@ -28,7 +27,7 @@ impl Cell {
         ensures { IfOk result (λ o. MatchOption o (cell_change op.now (held self.old) ≡ None) (λ v. cell_change op.now (held self.old) ≡ Some (v, held self.new))) }
     {
         match op {
-            Op::Length => Ok(self.length().map(|n| Value::index(n))),
+            Op::Length => Ok(self.length_value()),
             Op::Pop => self.pop(alloc),
             Op::Last => self.last(alloc),
             Op::Top(kind) => Ok(self.top_value(*kind)),
@@ -48,6 +47,15 @@ impl Cell {
             Cell::Slot(_) => None,
             Cell::States(states) => Some(states.len()),
             Cell::Symbols(symbols) => Some(symbols.len()),
+        }
+    }
+
+    fn length_value(&self) -> Option<Value>
+        ensures { result ≡ option_map index (length_of (held self.now)) }
+    {
+        match self.length() {
+            None => None,
+            Some(n) => Some(Value::index(n)),
         }
     }
 
@@ -237,10 +245,7 @@ fn last_symbol(symbols: &[(Loc, Value, Loc)]) -> Option<&(Loc, Value, Loc)>
 }
 
 // A symbol with its span, if there is one, as the value of an option.
-fn symbol_option(
-    alloc: Global,
-    symbol: Option<(Loc, Value, Loc)>,
-) -> Result<Value, AllocError>
+fn symbol_option(alloc: Global, symbol: Option<(Loc, Value, Loc)>) -> Result<Value, AllocError>
     ensures { IfOk result (λ v. v ≡ option_val (option_map spanned_val symbol)) }
 {
     match symbol {

@@ -38,10 +38,7 @@ pub fn copied_token(alloc: Global, token: &SpannedToken) -> Result<SpannedToken,
     Ok((token.0, value, token.2))
 }
 
-fn copied_tokens(
-    alloc: Global,
-    tokens: &[SpannedToken],
-) -> Result<Items<SpannedToken>, AllocError>
+fn copied_tokens(alloc: Global, tokens: &[SpannedToken]) -> Result<Items<SpannedToken>, AllocError>
     ensures { IfOk result (λ copy. copy ≡ tokens.now) }
 {
     let mut copies = Vec::new(alloc);
@@ -119,4 +116,3 @@ pub fn copied_term(alloc: Global, term: &Term) -> Result<Term, AllocError>
         }
     })
 }
-

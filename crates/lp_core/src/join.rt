@@ -8,14 +8,14 @@ ghost use Rattle.lp_core.specs.Effect.{effect};
 ghost use Rattle.lp_core.specs.JoinMeaning.{join_meaning, join_calls, pair_meaning, indices, sum, product, difference, at_least, state_in, option_of, collected, list_val, payloads, tuple_val, with_option, payload_of, texts_of, texts_among, named_text, state_val, truncated, extended, unrecognized_token, unrecognized_eof};
 
 use crate::act::{error_value, spanned_token, text_at};
-use crate::call::user_call;
 use crate::cell::{Cell, typed};
+use crate::copies::copied_text;
+use crate::events::user_call;
 use crate::expr::Join;
 use crate::numbers::{difference, product, sum};
 use crate::slots::{cell_at, cut, done, given, push_on};
 use crate::value::{Atom, StateType, Tag, Value};
 use crate::world::{Done, Setting, World};
-use crate::copies::copied_text;
 use lp_repr::values::{ParseError, Term};
 use lp_repr::{Items, Text};
 use std::alloc::{AllocError, Global};

@@ -6,5 +6,4 @@ ghost use Rattle.lp_core.specs.Budget.{MoreSteps};
 /// code come first.
 pub fn more_steps()
     ensures { MoreSteps }
-{
-}
+{}

@@ -3,10 +3,10 @@
 #![tactic(auto)]
 
 pub mod act;
-pub mod call;
 pub mod cases;
 pub mod cell;
 pub mod copies;
+pub mod events;
 pub mod expr;
 pub mod join;
 pub mod laws;

@@ -185,13 +185,7 @@ fn select<'a>(
 }
 
 // Goes on with the body of a number, the value in its slot.
-fn with_body<'a>(
-    world: &mut World,
-    x: usize,
-    bodies: &'a [Expr],
-    body: usize,
-    v: Value,
-) -> Now<'a>
+fn with_body<'a>(world: &mut World, x: usize, bodies: &'a [Expr], body: usize, v: Value) -> Now<'a>
     ensures same { (p : Program) (left : ℕ) → now_flow p result (state_of world.new left) ≡ with_body x v (run_at p (trees_of bodies.now)) (Some body) (state_of world.old left) }
     ensures smaller { weight_now result < weight_all (trees_of bodies.now) + 1 }
 {

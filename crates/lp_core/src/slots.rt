@@ -163,12 +163,7 @@ fn nth(cells: &[Cell], n: usize) -> Option<&Cell>
 }
 
 /// What an operation does with the cell that a value refers to.
-pub fn change_cell(
-    alloc: Global,
-    world: &mut World,
-    op: &Op,
-    v: &Value,
-) -> Result<Done, AllocError>
+pub fn change_cell(alloc: Global, world: &mut World, op: &Op, v: &Value) -> Result<Done, AllocError>
     ensures does { IfOk result (λ d. effect d (store_of world.new) ≡ on_reference (store_of world.old) (cell_change op.now) (cell_of v.now)) }
     ensures events { OnOk result (world.new.events ≡ world.old.events) }
 {

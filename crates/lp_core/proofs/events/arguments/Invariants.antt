@@ -2,7 +2,7 @@ use Rattle.std.proofs.Common.{◌≡◌, drop}
 use Rattle.lp_core.specs.Store.{program_of}
 use Rattle.lp_core.specs.CallMeaning.{arguments, no_arguments}
 use Rattle.lp_core.specs.ArgumentsView.{arguments_of}
-use Rattle.lp_core.proofs.call.arguments.Given as goal
+use Rattle.lp_core.proofs.events.arguments.Given as goal
 
 abbrev pub invariant-loop-v : goal.invariant-loop-v
 invariant-loop-v l =
