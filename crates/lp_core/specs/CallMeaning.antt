@@ -5,7 +5,7 @@ use Rattle.std.specs.Option.{option_map, option_and_then, option_to_list}
 use Rattle.lp_repr.specs.declared.values.Loc.{Loc}
 use Rattle.lp_repr.specs.declared.values.UserError.TheVariants as user
 use Rattle.lp_repr.specs.declared.values.ParseError.TheVariants as failure
-use Rattle.lp_core.specs.ParseValues.{Text, Value, Call_result, Spanned}
+use Rattle.lp_driver.specs.Values.{Text, Value, Call_result, Spanned}
 use Rattle.lp_core.specs.declared.value.Tag.TheVariants as tag
 use Rattle.lp_core.specs.Datum.{Datum, Parsed, Param}
 use Rattle.lp_core.specs.Val.{Val, Plain}

@@ -1,7 +1,7 @@
 -- Values without parts.
 use Rattle.std.specs.Prelude.{ℕ, ℤ, Bool, Option, Some, None}
 use Rattle.lp_repr.specs.declared.values.UserError.{UserError}
-use Rattle.lp_core.specs.ParseValues.{Value, Failure, value_of}
+use Rattle.lp_driver.specs.Values.{Value, Failure, value_of}
 use Rattle.lp_core.specs.declared.value.StateType.{StateType}
 use Rattle.lp_core.specs.declared.value.Atom.{Atom}
 use Rattle.lp_core.specs.declared.value.Atom.TheVariants as atom

@@ -3,7 +3,7 @@ use Rattle.std.specs.Prelude.{ℕ, ◌+◌, ◌*◌, ◌-◌, nat_le, List, [], 
 use Rattle.std.specs.Option.{option_map, option_and_then, option_to_list}
 use Rattle.lp_repr.specs.declared.values.Loc.{Loc}
 use Rattle.lp_repr.specs.declared.values.ParseError.TheVariants as failure
-use Rattle.lp_core.specs.ParseValues.{Text, Token, Value, Payload, Tuple, Spanned}
+use Rattle.lp_driver.specs.Values.{Text, Token, Value, Payload, Tuple, Spanned}
 use Rattle.lp_core.specs.declared.value.Tag.{Tag}
 use Rattle.lp_core.specs.declared.value.Tag.TheVariants as tag
 use Rattle.lp_core.specs.declared.value.StateType.{StateType}

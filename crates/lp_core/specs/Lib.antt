@@ -22,5 +22,4 @@ pub mod FrameView
 pub mod ArgumentsView
 pub mod Endings
 pub mod Prefix
-pub mod ParseValues
 pub mod Budget

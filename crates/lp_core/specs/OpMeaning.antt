@@ -8,7 +8,7 @@ use Rattle.lp_repr.specs.declared.values.RunItem.{RunItem}
 use Rattle.lp_repr.specs.declared.values.RunItem.TheVariants as item
 use Rattle.lp_repr.specs.declared.values.UserError.TheVariants as user
 use Rattle.lp_repr.specs.declared.values.ParseError.TheVariants as failure
-use Rattle.lp_core.specs.ParseValues.{Text, Token, Token_value, Payload, Value, Failure, Spanned}
+use Rattle.lp_driver.specs.Values.{Text, Token, Token_value, Payload, Value, Failure, Spanned}
 use Rattle.lp_core.specs.declared.value.Tag.TheVariants as tag
 use Rattle.lp_core.specs.declared.expr.Leaf.{Leaf}
 use Rattle.lp_core.specs.declared.expr.Leaf.TheVariants as leaf

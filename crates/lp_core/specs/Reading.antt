@@ -2,7 +2,7 @@
 use Rattle.std.specs.Prelude.{ℕ, ℤ, Bool, List, [], ◌∷◌, length, Option, Some, None, slice_get}
 use Rattle.std.specs.Option.{option_map, option_and_then}
 use Rattle.lp_repr.specs.declared.values.Loc.{Loc}
-use Rattle.lp_core.specs.ParseValues.{Value, Location, Spanned}
+use Rattle.lp_driver.specs.Values.{Value, Location, Spanned}
 use Rattle.lp_core.specs.declared.value.Tag.{Tag}
 use Rattle.lp_core.specs.declared.value.Tag.TheVariants as tag
 use Rattle.lp_core.specs.Datum.{Datum, Unset, Truth, Index, Number, Parsed, Cell, Param, Written}

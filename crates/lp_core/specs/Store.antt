@@ -4,8 +4,8 @@ use Rattle.lp_repr.specs.declared.values.Loc.{Loc}
 use Rattle.lp_repr.specs.declared.values.RunItem.{RunItem}
 use Rattle.lp_repr.specs.declared.values.Term.{Term}
 use Rattle.lp_repr.specs.declared.values.Event.{Event}
-use Rattle.lp_core.specs.ParseValues as parse
-use Rattle.lp_core.specs.ParseValues.{Text, Spanned, value_of}
+use Rattle.lp_driver.specs.Values as parse
+use Rattle.lp_driver.specs.Values.{Text, Spanned, value_of}
 use Rattle.lp_core.specs.declared.expr.Function.{Function}
 use Rattle.lp_core.specs.declared.expr.Table.{Table}
 use Rattle.lp_core.specs.declared.cell.Cell.{Cell}

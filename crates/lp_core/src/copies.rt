@@ -1,7 +1,7 @@
 //! Copies of the values of a parse.
 
 ghost use Rattle.std.specs.Prelude.{◌≡◌, IfOk};
-ghost use Rattle.lp_core.specs.ParseValues.{value_of};
+ghost use Rattle.lp_driver.specs.Values.{value_of};
 
 use lp_repr::text::{Items, Text};
 use lp_repr::values::{

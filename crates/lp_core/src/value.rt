@@ -2,7 +2,7 @@
 
 ghost use Rattle.std.specs.Prelude.{◌≡◌, ◌||◌, int_lt, if◌then◌else◌, Some, None, IfOk, MatchOption, length, slice_get};
 ghost use Rattle.std.specs.Option.{option_copied, option_map};
-ghost use Rattle.lp_core.specs.ParseValues.{value_of};
+ghost use Rattle.lp_driver.specs.Values.{value_of};
 ghost use Rattle.lp_core.specs.Datum as atom;
 ghost use Rattle.lp_core.specs.Datum.{datum_of};
 ghost use Rattle.lp_core.specs.Val.{vals_of, Made};
