@@ -5,7 +5,7 @@ ghost use Rattle.lp_program.specs.ProgramTree.{items, leaf};
 
 use super::{add_text, bare, text_row};
 use crate::piece::{Name, Piece};
-use crate::tree::{Node, Program};
+use crate::tree::{Node, Program, push_node};
 use lp_form::Part;
 use std::alloc::{AllocError, Global};
 
@@ -19,7 +19,8 @@ pub fn program<'t>(
 ) -> Result<Program<'t>, AllocError> {
     let mut node = bare(alloc, Part::Program)?;
     node.add_all(below)?;
-    let Node { entries } = node;
+    let mut entries = Vec::new(alloc);
+    push_node(&mut entries, node)?;
     Ok(Program { prefix, entries })
 }
 
