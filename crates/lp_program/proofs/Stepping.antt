@@ -11,7 +11,8 @@ use Rattle.lp_write.specs.declared.rust.WriteError.{WriteError}
 use Rattle.lp_program.specs.declared.tree.Entry.{Entry}
 use Rattle.lp_program.specs.ProgramTree.{content, forest, tree_count}
 use Rattle.lp_program.specs.Places.{IsAfter, printed_from}
-use Rattle.lp_program.specs.Printed.{all_lines, own_lines, part_lines, printed, step_lines, taken}
+use Rattle.lp_program.specs.OwnLines.{own_lines}
+use Rattle.lp_program.specs.Printed.{all_lines, part_lines, printed, step_lines, taken}
 use Rattle.lp_program.proofs.Printing.{part-is, rest_lines}
 use Rattle.lp_program.proofs.Progress.{Left, left-all, left-more, left-none, left-stopped}
 

@@ -36,6 +36,10 @@ below n = map item n.below.items
 abbrev pub items : Node → List Item
 items n = ((head n).0, (head n).1, (head n).2, length (below n)) ∷ below n
 
+-- the parts of a program, in the order of the text
+abbrev pub program_items : Program → List Item
+program_items p = map item p.entries.items
+
 -- a part with nothing below it
 abbrev pub leaf : Part → List (List ℕ) → List Item
 leaf part holes = (part, holes, [], 0) ∷ []

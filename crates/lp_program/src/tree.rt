@@ -1,6 +1,6 @@
 //! Program trees as flat lists: each part before those below it, with their number.
 
-ghost use Rattle.std.specs.Prelude.{◌≡◌, ◌++◌, map, IfOk, OnOk};
+ghost use Rattle.std.specs.Prelude.{◌≡◌, [], ◌++◌, map, IfOk, OnOk};
 ghost use Rattle.std.specs.List.{flat_map};
 ghost use Rattle.lp_program.specs.ProgramTree.{below, head, item, items, leaf};
 
@@ -78,7 +78,9 @@ impl<'t> Node<'t> {
         part: Part,
         holes: Vec<Piece<'t>>,
     ) -> Result<Node<'t>, AllocError>
-        ensures { IfOk result (λ n. items n ≡ leaf part holes.entry.items) }
+        ensures items { IfOk result (λ n. items n ≡ leaf part holes.entry.items) }
+        ensures head { IfOk result (λ n. head n ≡ (part, holes.entry.items, [])) }
+        ensures below { IfOk result (λ n. below n ≡ []) }
     {
         Ok(Node {
             first: Entry {

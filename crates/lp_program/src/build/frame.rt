@@ -1,7 +1,9 @@
 //! The forms around the modules.
 
 ghost use Rattle.std.specs.Prelude.{◌≡◌, [], ◌∷◌, IfOk, if◌then◌else◌};
-ghost use Rattle.lp_program.specs.ProgramTree.{items, leaf};
+ghost use Rattle.std.specs.List.{flat_map};
+ghost use Rattle.lp_program.specs.Built.{over};
+ghost use Rattle.lp_program.specs.ProgramTree.{items, leaf, program_items};
 
 use super::{add_text, bare, text_row};
 use crate::piece::{Name, Piece};
@@ -16,7 +18,10 @@ pub fn program<'t>(
     alloc: Global,
     prefix: Piece<'t>,
     below: Vec<Node<'t>>,
-) -> Result<Program<'t>, AllocError> {
+) -> Result<Program<'t>, AllocError>
+    ensures prefix { IfOk result (λ p. p.prefix ≡ prefix.entry) }
+    ensures parts { IfOk result (λ p. program_items p ≡ over Part.Program [] (flat_map items below.entry.items)) }
+{
     let mut node = bare(alloc, Part::Program)?;
     node.add_all(below)?;
     let mut entries = Vec::new(alloc);

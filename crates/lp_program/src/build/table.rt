@@ -1,8 +1,10 @@
 //! Tables, and what looks them up.
 
-ghost use Rattle.std.specs.Prelude.{◌≡◌, [], ◌∷◌, IfOk};
+ghost use Rattle.std.specs.Prelude.{◌≡◌, ◌==◌, [], ◌∷◌, IfOk, if◌then◌else◌};
 ghost use Rattle.std.specs.Fmt.{decimal};
-ghost use Rattle.lp_program.specs.ProgramTree.{items, leaf};
+ghost use Rattle.std.specs.List.{flat_map};
+ghost use Rattle.lp_program.specs.Built.{text_rows};
+ghost use Rattle.lp_program.specs.ProgramTree.{below, head, items, leaf};
 
 use super::{add_text, add_texts, bare, text_row};
 use crate::piece::{Name, Piece};
@@ -44,7 +46,10 @@ fn table<'t>(
     state_type: Name<'t>,
     entries: Vec<i32>,
     notes: Vec<RowNote<'t>>,
-) -> Result<Node<'t>, AllocError> {
+) -> Result<Node<'t>, AllocError>
+    ensures head { IfOk result (λ n. head n ≡ (part, state_type.entry ∷ [], entries.entry.items)) }
+    ensures below { IfOk result (λ n. below n ≡ []) }
+{
     let mut node = text_row(alloc, part, state_type.into_piece())?;
     node.fill(entries, notes);
     Ok(node)
@@ -57,7 +62,10 @@ pub fn action_table<'t>(
     state_type: Name<'t>,
     entries: Vec<i32>,
     notes: Vec<RowNote<'t>>,
-) -> Result<Node<'t>, AllocError> {
+) -> Result<Node<'t>, AllocError>
+    ensures head { IfOk result (λ n. head n ≡ (Part.ActionTable, state_type.entry ∷ [], entries.entry.items)) }
+    ensures below { IfOk result (λ n. below n ≡ []) }
+{
     table(alloc, Part::ActionTable, state_type, entries, notes)
 }
 
@@ -66,7 +74,9 @@ pub fn action_lookup<'t>(
     alloc: Global,
     state_type: Name<'t>,
     terminals: u64,
-) -> Result<Node<'t>, AllocError> {
+) -> Result<Node<'t>, AllocError>
+    ensures { IfOk result (λ n. items n ≡ if terminals == 1 then leaf Part.ActionLookupOne (state_type.entry ∷ []) else leaf Part.ActionLookup (state_type.entry ∷ decimal terminals ∷ [])) }
+{
     let state_type = state_type.into_piece();
     if terminals == 1 {
         return text_row(alloc, Part::ActionLookupOne, state_type);
@@ -85,7 +95,10 @@ pub fn eof_table<'t>(
     state_type: Name<'t>,
     entries: Vec<i32>,
     notes: Vec<RowNote<'t>>,
-) -> Result<Node<'t>, AllocError> {
+) -> Result<Node<'t>, AllocError>
+    ensures head { IfOk result (λ n. head n ≡ (Part.EofTable, state_type.entry ∷ [], entries.entry.items)) }
+    ensures below { IfOk result (λ n. below n ≡ []) }
+{
     table(alloc, Part::EofTable, state_type, entries, notes)
 }
 
@@ -94,7 +107,10 @@ pub fn goto_fn<'t>(
     alloc: Global,
     state_type: Name<'t>,
     below: Vec<Node<'t>>,
-) -> Result<Node<'t>, AllocError> {
+) -> Result<Node<'t>, AllocError>
+    ensures head { IfOk result (λ n. head n ≡ (Part.GotoFn, state_type.entry ∷ [], [])) }
+    ensures below { IfOk result (λ n. below n ≡ flat_map items below.entry.items) }
+{
     let mut node = text_row(alloc, Part::GotoFn, state_type.into_piece())?;
     node.add_all(below)?;
     Ok(node)
@@ -177,7 +193,10 @@ pub fn goto_match<'t>(
 }
 
 /// Form 18: the names of the terminals, without the error terminal.
-pub fn terminal_list<'t>(alloc: Global, terminals: Vec<Piece<'t>>) -> Result<Node<'t>, AllocError> {
+pub fn terminal_list<'t>(alloc: Global, terminals: Vec<Piece<'t>>) -> Result<Node<'t>, AllocError>
+    ensures head { IfOk result (λ n. head n ≡ (Part.TerminalList, [], [])) }
+    ensures below { IfOk result (λ n. below n ≡ text_rows Part.TerminalRow terminals.entry.items) }
+{
     let mut node = bare(alloc, Part::TerminalList)?;
     add_texts(alloc, &mut node, Part::TerminalRow, terminals)?;
     Ok(node)
@@ -196,7 +215,10 @@ pub fn expected_from_states<'t>(
     alloc: Global,
     phantom: Piece<'t>,
     below: Vec<Node<'t>>,
-) -> Result<Node<'t>, AllocError> {
+) -> Result<Node<'t>, AllocError>
+    ensures head { IfOk result (λ n. head n ≡ (Part.ExpectedFromStates, phantom.entry ∷ [], [])) }
+    ensures below { IfOk result (λ n. below n ≡ flat_map items below.entry.items) }
+{
     let mut node = text_row(alloc, Part::ExpectedFromStates, phantom)?;
     node.add_all(below)?;
     Ok(node)
@@ -226,7 +248,10 @@ pub fn token_to_integer<'t>(
 }
 
 /// Form 24: the value of a token. Below it: the header and the arms.
-pub fn token_to_symbol<'t>(alloc: Global, below: Vec<Node<'t>>) -> Result<Node<'t>, AllocError> {
+pub fn token_to_symbol<'t>(alloc: Global, below: Vec<Node<'t>>) -> Result<Node<'t>, AllocError>
+    ensures head { IfOk result (λ n. head n ≡ (Part.TokenToSymbol, [], [])) }
+    ensures below { IfOk result (λ n. below n ≡ flat_map items below.entry.items) }
+{
     let mut node = bare(alloc, Part::TokenToSymbol)?;
     node.add_all(below)?;
     Ok(node)

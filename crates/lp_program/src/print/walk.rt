@@ -4,7 +4,8 @@ ghost use Rattle.std.specs.Prelude.{◌≡◌, ℕ, ◌<◌, ◌≤◌, List, �
 ghost use Rattle.std.specs.List.{prefix_len};
 ghost use Rattle.lp_form.specs.Templates.{piece};
 ghost use Rattle.lp_program.specs.Places.{printed_from, takes_next, IsAfter, place_ending};
-ghost use Rattle.lp_program.specs.Printed.{all_lines, is_member, lines, node_lines, own_lines, part_lines, takes, takes_one, taken};
+ghost use Rattle.lp_program.specs.OwnLines.{own_lines};
+ghost use Rattle.lp_program.specs.Printed.{all_lines, is_member, lines, node_lines, part_lines, takes, takes_one, taken};
 ghost use Rattle.lp_program.specs.ProgramTree.{content, forest, tree_count};
 ghost use Rattle.lp_write.specs.declared.rust.Options.{Options};
 ghost use Rattle.lp_write.specs.Writes.{options_of, writing, Writes, write_ending};

@@ -1,4 +1,5 @@
 use Rattle.std.proofs.Common.{◌-◌, arith, take, drop, length, map, rules, subst}
+use Rattle.std.proofs.lemmas.List.{take_rest}
 use Rattle.std.proofs.lemmas.Result.{err_from_is_err_and}
 use Rattle.lp_write.specs.Writes.{options_of, write_ending, writing}
 use Rattle.lp_program.specs.ProgramTree.{note}
@@ -36,4 +37,4 @@ returns g c =
     left-last (λ x. last_lines x (length notes) (drop c.loop-i.from numbers)) (write_ending c.print_last.result) _ _ _ _
     (subst (λ rest. Left a b (table_lines o numbers (map note notes)) rest)
     (rows-last o numbers notes c.loop-i.i c.loop-i.from c.loop-i-test.false (omega arith)) c.loop-i.invariant.left)
-    c.print_last.ensures
+    (rw (take_rest numbers c.loop-i.from) at c.print_last.ensures)

@@ -1,7 +1,9 @@
-use Rattle.std.proofs.Common.{◌≡◌, length, rules, subst, sym}
-use Rattle.lp_write.specs.Writes.{AppendsAll, options_of, writing}
+use Rattle.std.proofs.Common.{◌≡◌, ◌<◌, ◌∙◌, ap, drop, get_or, length, rules, subst, sym}
+use Rattle.std.proofs.lemmas.List.{take_rest}
+use Rattle.lp_write.specs.Writes.{AppendsAll, Writes, options_of, write_ending, writing}
 use Rattle.lp_write.proofs.Writing.{all-none}
-use Rattle.lp_program.proofs.Printing.{whole-none}
+use Rattle.lp_program.proofs.Printing.{whole-first, whole-none}
+use Rattle.lp_program.specs.Printed.{part_lines}
 use Rattle.lp_program.proofs.print.walk.print_program.Goals as goal
 
 pub returns-then-is_empty : goal.returns-then-is_empty
@@ -12,4 +14,17 @@ returns-then-is_empty g c =
     (all-none w)
 
 pub returns : goal.returns
-returns g c = ?
+returns g c =
+    let o = options_of c.args.out.now in
+    let prefix = c.args.program.now.prefix in
+    let es = c.args.program.now.entries.items in
+    let first = c.index-entries-0.result in
+    let held = c.as_slice-entries.ensures.value in
+    let some : 0 < length es = search rules in
+    let is : first ≡ get_or es 0 first = c.index-entries-0.is ∙ ap (λ l. get_or l 0 first) held in
+    let ending = write_ending c.print_part.result in
+    let old = writing g.W.Sink.told c.args.out.now in
+    let new = writing g.W.Sink.told c.print_part.new.out in
+    let part : Writes ending old new (part_lines o prefix first (drop 1 es))
+        = rw (held, take_rest es 1, c.as_str.ensures) at c.print_part.ensures in
+    subst (λ ls. Writes ending old new ls) (sym (whole-first o prefix es first some is)) part
