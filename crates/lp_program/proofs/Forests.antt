@@ -1,8 +1,7 @@
 -- The trees of a list of parts, one after another.
-use Rattle.std.proofs.Common.{◌≡◌, ℕ, ◌+◌, ◌-◌, ◌<◌, ◌≤◌, zero, suc, List, [], ◌∷◌, length, take, drop, refl, sym, ap, ◌∙◌, arith, length-drop}
-use Rattle.std.proofs.lemmas.List.{drop-drop, drop_more}
+use Rattle.std.proofs.Common.{◌≡◌, ℕ, ◌-◌, ◌≤◌, zero, suc, List, [], ◌∷◌, length, take, drop, refl, ap, ◌∙◌, arith, length-drop}
 use Rattle.lp_program.specs.declared.tree.Entry.{Entry}
-use Rattle.lp_program.specs.ProgramTree.{Content, content, Forest, forest, forest_within, tree_count}
+use Rattle.lp_program.specs.ProgramTree.{content, forest, forest_within}
 use Rattle.lp_program.specs.ProgramTree.Forest.{bare, tree}
 
 length-take-le : (n : ℕ) (es : List Entry) → length (take n es) ≤ length es
@@ -23,9 +22,9 @@ within-enough (suc n) (suc m) (e ∷ es) h k =
     let t = length-take-le e.below es in
     let d = length-drop e.below es in
     ap (λ x. tree (content e) x (forest_within n (drop e.below es)))
-        (within-enough n m (take e.below es) (omega (arith, t)) (omega (arith, t)))
+    (within-enough n m (take e.below es) (omega (arith, t)) (omega (arith, t)))
     ∙ ap (λ x. tree (content e) (forest_within m (take e.below es)) x)
-        (within-enough n m (drop e.below es) (omega (arith, d)) (omega (arith, d)))
+    (within-enough n m (drop e.below es) (omega (arith, d)) (omega (arith, d)))
 
 -- no part has no tree
 pub forest-none : forest [] ≡ bare
@@ -40,6 +39,6 @@ forest-first e es =
     let t = length-take-le e.below es in
     let d = length-drop e.below es in
     ap (λ x. tree (content e) x (forest_within (length es) (drop e.below es)))
-        (within-enough (length es) (length (take e.below es)) (take e.below es) (omega (arith, t)) (omega arith))
+    (within-enough (length es) (length (take e.below es)) (take e.below es) (omega (arith, t)) (omega arith))
     ∙ ap (λ x. tree (content e) (forest (take e.below es)) x)
-        (within-enough (length es) (length (drop e.below es)) (drop e.below es) (omega (arith, d)) (omega arith))
+    (within-enough (length es) (length (drop e.below es)) (drop e.below es) (omega (arith, d)) (omega arith))

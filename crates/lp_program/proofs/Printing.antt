@@ -1,5 +1,5 @@
 -- The lines of trees one after another, and those of steps.
-use Rattle.std.proofs.Common.{◌≡◌, ℕ, ◌+◌, ◌-◌, ◌<◌, ◌≤◌, zero, suc, min, List, [], ◌∷◌, ◌++◌, length, map, take, drop, get_or, Bor, refl, sym, ap, ◌∙◌, arith, append-nil, length-drop, subst}
+use Rattle.std.proofs.Common.{◌≡◌, ℕ, ◌+◌, ◌-◌, ◌<◌, ◌≤◌, zero, suc, min, List, [], ◌∷◌, length, map, take, drop, get_or, Bor, refl, sym, ap, ◌∙◌, arith, append-nil, length-drop, subst}
 use Rattle.std.proofs.Math.Seq.{drop-nil}
 use Rattle.std.proofs.lemmas.List.{at_drop_more, drop-drop, get_or_default}
 use Rattle.lp_form.specs.declared.template.Slot.{Slot}
@@ -119,13 +119,15 @@ tree-after o p es at end h j = record {
   within = omega (arith, k);
   left =
       ap (λ l. printed o p (forest l))
-          (drop-capped end (at + 1 + e.below) es k ∙ sym (drop-drop e.below (at + 1) es))
+      (drop-capped end (at + 1 + e.below) es k ∙ sym (drop-drop e.below (at + 1) es))
       ∙ sym (ap (λ trees. drop 1 trees) (tree-first o p es at e h i));
 } where
   e : Entry
   e = (some-entry es at h).0
+
   i : e ≡ get_or es at e
   i = (some-entry es at h).1
+
   k : end ≡ min (at + 1 + e.below) (length es)
   k = ends-at es at end e i j
 

@@ -5,8 +5,8 @@ use Rattle.lp_write.specs.Lines.{Line}
 use Rattle.lp_write.specs.declared.rust.Options.{Options}
 use Rattle.lp_write.specs.declared.rust.WriteError.{WriteError}
 use Rattle.lp_write.specs.declared.rust.WriteError.TheVariants.{Fault, Memory}
-use Rattle.lp_write.specs.Writes.{Writing, AppendsAll, AppendsPart, Faults, Writes, Ending, error_ending}
-use Rattle.lp_write.specs.Writes.Ending.{complete, faulted, wanting}
+use Rattle.lp_write.specs.Writes.{Writing, AppendsAll, AppendsPart, Writes, Ending, error_ending}
+use Rattle.lp_write.specs.Writes.Ending.{wanting}
 use Rattle.lp_write.proofs.Writing.{all-none, all-then, part-more, faults-more, writes-then, none-part}
 
 -- of all lines some are written, and these are left

@@ -59,7 +59,7 @@ rows-next o numbers notes i from end n e h f k =
     let size : length (take (end - from) all) ≡ end - from = length-take-le (end - from) all (omega (arith, d)) in
     let to : from + length (take (end - from) all) ≡ end = omega (arith, size) in
     let left : drop (length (take (end - from) all)) all ≡ drop end numbers
-        = drop-drop (length (take (end - from) all)) from numbers ∙ ap (λ m. drop m numbers) to in
+    = drop-drop (length (take (end - from) all)) from numbers ∙ ap (λ m. drop m numbers) to in
     at_drop_more (λ l. rows_from o i from all (map note l)) notes i n h
     ∙ ap (λ (m : RowNote). rows_from o i from all (note m ∷ rest)) (sym e)
     ∙ ap (λ (l : List ℤ). row_lines o i l (note n) ++ rows_from o (i + 1) (from + length l) (drop (length l) all) rest) (sym row)

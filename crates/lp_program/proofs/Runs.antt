@@ -1,5 +1,5 @@
 -- Trees that are printed in a row, as long as a step takes them.
-use Rattle.std.proofs.Common.{◌≡◌, ℕ, ◌+◌, ◌≤◌, Bool, true, false, min, zero, suc, List, [], ◌∷◌, ◌++◌, length, take, drop, Result, IfOk, refl, sym, ap, ◌∙◌, arith, append-nil, subst}
+use Rattle.std.proofs.Common.{◌≡◌, ℕ, ◌+◌, ◌≤◌, true, false, min, suc, List, [], ◌∷◌, ◌++◌, length, take, drop, Result, IfOk, refl, sym, ap, ◌∙◌, arith, append-nil, subst}
 use Rattle.std.specs.List.{prefix_len}
 use Rattle.lp_form.specs.declared.template.Step.{Step}
 use Rattle.lp_write.specs.Lines.{Line}
@@ -107,7 +107,7 @@ pub runs-lines : (s : Step) (p : List ℕ) (es : List Entry) (from at : ℕ) (a 
     AppendsAll a b (all_lines (take (run s (printed_from a.options p es from)) (printed_from a.options p es from)))
 runs-lines s p es from at a b r h =
     left-none a b _ (subst (λ n. Left a b (all_lines (take (run s (printed_from a.options p es from)) (printed_from a.options p es from))) (all_lines (take n (printed_from a.options p es at))))
-        (run-none s (printed_from a.options p es at) h) r.left)
+    (run-none s (printed_from a.options p es at) h) r.left)
 
 taken-one : (s : Step) (trees : List Printed) → takes_one s ≡ true → min 1 (run s trees) ≡ taken s trees
 taken-one s trees h = rw h refl

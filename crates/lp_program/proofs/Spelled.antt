@@ -5,7 +5,7 @@ use Rattle.std.specs.Str.Pattern.{FindsTextPrefix}
 use Rattle.std.proofs.lemmas.List.{get_or_append_left}
 use Rattle.lp_form.specs.declared.template.Slot.{Slot}
 use Rattle.lp_form.specs.declared.template.Slot.TheVariants.{Nothing, Prefix, Hole}
-use Rattle.lp_form.specs.Templates.{Piece, piece}
+use Rattle.lp_form.specs.Templates.{Piece}
 use Rattle.lp_program.specs.Lines.{slot_text, line_of, IsTold, AreTold, TakesSlot, TakesParts}
 
 -- what is left of a text whose front is off

@@ -1,5 +1,5 @@
 -- The steps of a part, printed one after another.
-use Rattle.std.proofs.Common.{◌≡◌, ℕ, ◌+◌, ◌<◌, ◌≤◌, List, [], ◌∷◌, ◌++◌, length, map, take, drop, get_or, Bor, refl, sym, ap, ◌∙◌, subst}
+use Rattle.std.proofs.Common.{◌≡◌, ℕ, ◌+◌, ◌<◌, ◌≤◌, List, [], ◌++◌, length, map, take, drop, get_or, Bor, sym, ap, ◌∙◌, subst}
 use Rattle.std.proofs.lemmas.List.{at_drop_more, at_drop_all}
 use Rattle.lp_form.specs.declared.template.Slot.{Slot}
 use Rattle.lp_form.specs.declared.template.Step.{Step}
@@ -40,14 +40,14 @@ unfolding step_lines
 steps-next o p e below steps index at n d h q =
     at_drop_more (λ l. rest_lines o p e below l at) steps index d h
     ∙ ap (λ trees. held_lines p e below at (get_or steps index d) o
-        ++ step_lines o p (content e) (tree_count (forest below)) (map line (drop (index + 1) steps)) trees) (sym q)
+    ++ step_lines o p (content e) (tree_count (forest below)) (map line (drop (index + 1) steps)) trees) (sym q)
 
 steps-rest : (o : Options) (p : List ℕ) (e : Entry) (below : List Entry) (steps : List HeldStep) (index at : ℕ) (d : HeldStep) → index < length steps →
     let s = get_or steps index d in
     rest_lines o p e below (drop index steps) at
     ≡ held_lines p e below at s o
     ++ step_lines o p (content e) (tree_count (forest below)) (map line (drop (index + 1) steps))
-        (drop (taken s.0 (printed_from o p below at)) (printed_from o p below at))
+    (drop (taken s.0 (printed_from o p below at)) (printed_from o p below at))
 unfolding step_lines
 steps-rest o p e below steps index at d h = at_drop_more (λ l. rest_lines o p e below l at) steps index d h
 
@@ -74,7 +74,7 @@ pub steps-more : (p : List ℕ) (e : Entry) (below : List Entry) (steps : List H
     AppendsAll b c (held_lines p e below at (get_or steps index d) b.options) → Steps p e below steps (index + 1) n a c
 steps-more p e below steps index at n d a b c s h i w =
     let after : IsAfter a.options p below at (taken (get_or steps index d).0 (printed_from a.options p below at)) n
-        = subst (λ o. IsAfter o p below at (taken (get_or steps index d).0 (printed_from o p below at)) n) s.left.appended.options i in
+    = subst (λ o. IsAfter o p below at (taken (get_or steps index d).0 (printed_from o p below at)) n) s.left.appended.options i in
     record {
       within = after.within;
       left = left-more (held_lines p e below at (get_or steps index d)) a b c _ _ _ s.left (steps-next a.options p e below steps index at n d h after.left) w;

@@ -47,10 +47,7 @@ pub struct Program<'t> {
 }
 
 /// Puts the parts of a node behind others.
-pub(crate) fn push_node<'t>(
-    entries: &mut Vec<Entry<'t>>,
-    node: Node<'t>,
-) -> Result<(), AllocError>
+pub(crate) fn push_node<'t>(entries: &mut Vec<Entry<'t>>, node: Node<'t>) -> Result<(), AllocError>
     ensures { OnOk result (map item entries.new.items ≡ map item entries.old.items ++ items node.entry) }
 {
     let Node { first, mut below } = node;

@@ -81,11 +81,7 @@ fn print_times<W: Sink>(
 }
 
 /// Appends a line so many times.
-fn print_same<W: Sink>(
-    text: &str,
-    times: usize,
-    out: &mut RustWrite<W>,
-) -> Result<(), WriteError>
+fn print_same<W: Sink>(text: &str, times: usize, out: &mut RustWrite<W>) -> Result<(), WriteError>
     ensures { Writes (write_ending result) (writing W.told out.old) (writing W.told out.new) (replicate times (line text.now)) }
 {
     for _i in 0..times {
@@ -116,10 +112,7 @@ pub(crate) fn print_texts<W: Sink>(
 }
 
 /// Appends the comment lines of notes.
-fn print_notes<W: Sink>(
-    notes: &[RowNote<'_>],
-    out: &mut RustWrite<W>,
-) -> Result<(), WriteError>
+fn print_notes<W: Sink>(notes: &[RowNote<'_>], out: &mut RustWrite<W>) -> Result<(), WriteError>
     ensures { Writes (write_ending result) (writing W.told out.old) (writing W.told out.new) (note_lines (map note notes.now)) }
 {
     for note in notes {
@@ -129,10 +122,7 @@ fn print_notes<W: Sink>(
 }
 
 /// Appends the comment lines of notes, with comments on.
-fn print_comments<W: Sink>(
-    notes: &[RowNote<'_>],
-    out: &mut RustWrite<W>,
-) -> Result<(), WriteError>
+fn print_comments<W: Sink>(notes: &[RowNote<'_>], out: &mut RustWrite<W>) -> Result<(), WriteError>
     ensures { Writes (write_ending result) (writing W.told out.old) (writing W.told out.new) (if (options_of out.old).comments then note_lines (map note notes.now) else []) }
 {
     if out.options().comments {
@@ -142,11 +132,7 @@ fn print_comments<W: Sink>(
 }
 
 /// Appends a use.
-fn print_use<W: Sink>(
-    alloc: Global,
-    path: &str,
-    out: &mut RustWrite<W>,
-) -> Result<(), WriteError>
+fn print_use<W: Sink>(alloc: Global, path: &str, out: &mut RustWrite<W>) -> Result<(), WriteError>
     ensures { Writes (write_ending result) (writing W.told out.old) (writing W.told out.new) (line (codes "use " ++ (path.now ++ codes ";")) ∷ []) }
 {
     let text = format!(in alloc; "use {path};")?;

@@ -1,6 +1,6 @@
 //! The rows of a table.
 
-ghost use Rattle.std.specs.Prelude.{◌≡◌, ◌++◌, [], ◌∷◌, length, map, get_or, codes, IfOk, if◌then◌else◌};
+ghost use Rattle.std.specs.Prelude.{◌≡◌, ◌++◌, [], ◌∷◌, map, get_or, codes, IfOk, if◌then◌else◌};
 ghost use Rattle.std.specs.Fmt.{decimal};
 ghost use Rattle.lp_program.specs.ProgramTree.{note};
 ghost use Rattle.lp_program.specs.TableRows.{commented, entry_lines, last_lines, row_entry, row_lines, table_lines};

@@ -30,7 +30,13 @@ pub fn print_program<W: Sink>(
     if entries.is_empty() {
         return Ok(());
     }
-    print_part(alloc, program.prefix.as_str(), &entries[0], &entries[1..], out)
+    print_part(
+        alloc,
+        program.prefix.as_str(),
+        &entries[0],
+        &entries[1..],
+        out,
+    )
 }
 
 /// Appends the lines of one node, under the prefix of its program.

@@ -1,4 +1,4 @@
-use Rattle.std.proofs.Common.{[], ◌∷◌, ◌++◌, codes, map, if◌then◌else◌, refl, append-nil, sym}
+use Rattle.std.proofs.Common.{[], ◌∷◌, ◌++◌, codes, map, if◌then◌else◌, refl}
 use Rattle.std.proofs.lemmas.Result.{err_from_is_err_and}
 use Rattle.std.specs.Fmt.{decimal}
 use Rattle.lp_write.specs.Lines.Line.{line}

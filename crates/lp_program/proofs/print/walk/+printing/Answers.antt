@@ -1,4 +1,4 @@
-use Rattle.std.proofs.Common.{arith, rules, ◌≡◌, ◌∙◌, sym}
+use Rattle.std.proofs.Common.{arith, rules, ◌∙◌, sym}
 use Rattle.std.proofs.lemmas.Result.{err_from_is_err_and}
 use Rattle.lp_write.specs.Writes.{options_of, writing}
 use Rattle.lp_write.specs.Writes.Ending.{complete}

@@ -26,5 +26,5 @@ returns g c =
     let old = writing g.W.Sink.told c.args.out.now in
     let new = writing g.W.Sink.told c.print_part.new.out in
     let part : Writes ending old new (part_lines o prefix first (drop 1 es))
-        = rw (held, take_rest es 1, c.as_str.ensures) at c.print_part.ensures in
+    = rw (held, take_rest es 1, c.as_str.ensures) at c.print_part.ensures in
     subst (λ ls. Writes ending old new ls) (sym (whole-first o prefix es first some is)) part
