@@ -1,8 +1,8 @@
 -- The trees of a list of parts, one after another.
 use Rattle.std.proofs.Common.{◌≡◌, ℕ, ◌-◌, ◌≤◌, zero, suc, List, [], ◌∷◌, length, take, drop, refl, ap, ◌∙◌, arith, length-drop}
 use Rattle.lp_program.specs.declared.tree.Entry.{Entry}
-use Rattle.lp_program.specs.ProgramTree.{content, forest, forest_within}
-use Rattle.lp_program.specs.ProgramTree.Forest.{bare, tree}
+use Rattle.lp_program.specs.Trees.{content, forest, forest_within}
+use Rattle.lp_program.specs.Trees.Forest.{bare, tree}
 
 length-take-le : (n : ℕ) (es : List Entry) → length (take n es) ≤ length es
 length-take-le zero es = omega arith

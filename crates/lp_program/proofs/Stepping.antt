@@ -9,7 +9,7 @@ use Rattle.lp_write.specs.Writes.{Writing, AppendsAll, Writes, error_ending}
 use Rattle.lp_write.specs.declared.rust.Options.{Options}
 use Rattle.lp_write.specs.declared.rust.WriteError.{WriteError}
 use Rattle.lp_program.specs.declared.tree.Entry.{Entry}
-use Rattle.lp_program.specs.ProgramTree.{content, forest, tree_count}
+use Rattle.lp_program.specs.Trees.{content, forest, tree_count}
 use Rattle.lp_program.specs.Places.{IsAfter, printed_from}
 use Rattle.lp_program.specs.OwnLines.{own_lines}
 use Rattle.lp_program.specs.Printed.{all_lines, part_lines, printed, step_lines, taken}

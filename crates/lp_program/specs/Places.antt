@@ -5,7 +5,7 @@ use Rattle.lp_write.specs.declared.rust.Options.{Options}
 use Rattle.lp_write.specs.declared.rust.WriteError.{WriteError}
 use Rattle.lp_write.specs.Writes.{Ending, error_ending}
 use Rattle.lp_write.specs.Writes.Ending.{complete}
-use Rattle.lp_program.specs.ProgramTree.{forest}
+use Rattle.lp_program.specs.Trees.{forest}
 use Rattle.lp_program.specs.Printed.{Printed, printed, takes}
 use Rattle.lp_program.specs.declared.tree.Entry.{Entry}
 

@@ -12,8 +12,8 @@ use Rattle.lp_form.specs.declared.template.Step.TheVariants as step
 use Rattle.lp_write.specs.Lines.{Line}
 use Rattle.lp_write.specs.declared.rust.Options.{Options}
 use Rattle.lp_program.specs.OwnLines.{own_lines}
-use Rattle.lp_program.specs.ProgramTree.{Content, content, Forest, forest, tree_count, whole}
-use Rattle.lp_program.specs.ProgramTree.Forest.{bare, tree}
+use Rattle.lp_program.specs.Trees.{Content, content, Forest, forest, tree_count, whole}
+use Rattle.lp_program.specs.Trees.Forest.{bare, tree}
 use Rattle.lp_program.specs.declared.tree.Entry.{Entry}
 use Rattle.lp_program.specs.declared.tree.Node.{Node}
 use Rattle.lp_program.specs.declared.tree.Program.{Program}
@@ -71,10 +71,14 @@ printed options prefix (tree c below after) =
 abbrev pub part_lines : Options → List ℕ → Entry → List Entry → List Line
 part_lines options prefix e below = all_lines (printed options prefix (tree (content e) (forest below) bare))
 
+-- the lines of a list of parts: of its first part, with all others below it
+abbrev pub list_lines : Options → List ℕ → List Entry → List Line
+list_lines options prefix es = all_lines (printed options prefix (whole es))
+
 -- the lines of a node, under the prefix of its program
 abbrev pub node_lines : Options → List ℕ → Node → List Line
-node_lines options prefix node = part_lines options prefix node.first node.below.items
+node_lines options prefix node = list_lines options prefix node.entries.items
 
 -- the lines of a program
 abbrev pub lines : Options → Program → List Line
-lines options program = all_lines (printed options program.prefix (whole program.entries.items))
+lines options program = list_lines options program.prefix program.entries.items

@@ -1,8 +1,7 @@
 //! Program trees as flat lists: each part before those below it, with their number.
 
-ghost use Rattle.std.specs.Prelude.{◌≡◌, [], ◌++◌, map, IfOk, OnOk};
-ghost use Rattle.std.specs.List.{flat_map};
-ghost use Rattle.lp_program.specs.ProgramTree.{below, head, item, items, leaf};
+ghost use Rattle.std.specs.Prelude.{◌≡◌, [], ◌∷◌, IfOk};
+ghost use Rattle.lp_program.specs.ProgramTree.{items, leaf};
 
 use crate::piece::Piece;
 use lp_form::Part;
@@ -34,9 +33,7 @@ pub struct Entry<'t> {
 /// One form, or a row of one, with all that is below it.
 #[derive(Drop)]
 pub struct Node<'t> {
-    /// Its own part. How many are below it is set where the node is put below another.
-    pub(crate) first: Entry<'t>,
-    pub(crate) below: Vec<Entry<'t>>,
+    pub(crate) entries: Vec<Entry<'t>>,
 }
 
 /// A whole program: its prefix, and its parts in the order of the text.
@@ -46,28 +43,6 @@ pub struct Program<'t> {
     pub(crate) entries: Vec<Entry<'t>>,
 }
 
-/// Puts the parts of a node behind others.
-pub(crate) fn push_node<'t>(entries: &mut Vec<Entry<'t>>, node: Node<'t>) -> Result<(), AllocError>
-    ensures { OnOk result (map item entries.new.items ≡ map item entries.old.items ++ items node.entry) }
-{
-    let Node { first, mut below } = node;
-    let Entry {
-        part,
-        holes,
-        numbers,
-        notes,
-        below: _,
-    } = first;
-    entries.push(Entry {
-        part,
-        holes,
-        numbers,
-        notes,
-        below: below.len(),
-    })?;
-    entries.append(&mut below)
-}
-
 impl<'t> Node<'t> {
     /// A part with nothing below it.
     pub(crate) fn leaf(
@@ -75,35 +50,31 @@ impl<'t> Node<'t> {
         part: Part,
         holes: Vec<Piece<'t>>,
     ) -> Result<Node<'t>, AllocError>
-        ensures items { IfOk result (λ n. items n ≡ leaf part holes.entry.items) }
-        ensures head { IfOk result (λ n. head n ≡ (part, holes.entry.items, [])) }
-        ensures below { IfOk result (λ n. below n ≡ []) }
+        ensures { IfOk result (λ n. items n ≡ leaf part holes.entry.items) }
     {
-        Ok(Node {
-            first: Entry {
-                part,
-                holes,
-                numbers: Vec::new(alloc),
-                notes: Vec::new(alloc),
-                below: 0,
-            },
-            below: Vec::new(alloc),
-        })
+        let mut entries = Vec::new(alloc);
+        entries.push(Entry {
+            part,
+            holes,
+            numbers: Vec::new(alloc),
+            notes: Vec::new(alloc),
+            below: 0,
+        })?;
+        Ok(Node { entries })
     }
 
     /// Puts a node below this one, after those that are there.
-    pub(crate) fn add(&mut self, child: Node<'t>) -> Result<(), AllocError>
-        ensures head { head self.new ≡ head self.old }
-        ensures below { OnOk result (below self.new ≡ below self.old ++ items child.entry) }
-    {
-        push_node(&mut self.below, child)
+    pub(crate) fn add(&mut self, child: Node<'t>) -> Result<(), AllocError> {
+        let Node { entries } = child;
+        for entry in entries {
+            self.entries.push(entry)?;
+        }
+        self.close();
+        Ok(())
     }
 
     /// Puts the nodes below this one, in their order.
-    pub(crate) fn add_all(&mut self, children: Vec<Node<'t>>) -> Result<(), AllocError>
-        ensures head { head self.new ≡ head self.old }
-        ensures below { OnOk result (below self.new ≡ below self.old ++ flat_map items children.entry.items) }
-    {
+    pub(crate) fn add_all(&mut self, children: Vec<Node<'t>>) -> Result<(), AllocError> {
         for child in children {
             self.add(child)?;
         }
@@ -111,41 +82,54 @@ impl<'t> Node<'t> {
     }
 
     /// Puts what is below another node below this one.
-    pub(crate) fn add_below(&mut self, other: Node<'t>) -> Result<(), AllocError>
-        ensures head { head self.new ≡ head self.old }
-        ensures below { OnOk result (below self.new ≡ below self.old ++ below other.entry) }
-    {
-        let Node {
-            first: _,
-            mut below,
-        } = other;
-        self.below.append(&mut below)
+    pub(crate) fn add_below(&mut self, other: Node<'t>) -> Result<(), AllocError> {
+        let Node { entries } = other;
+        let mut first = true;
+        for entry in entries {
+            if !first {
+                self.entries.push(entry)?;
+            }
+            first = false;
+        }
+        self.close();
+        Ok(())
+    }
+
+    /// All that follows the first part is below it.
+    fn close(&mut self) {
+        let below = self.entries.len().saturating_sub(1);
+        if let Some(first) = self.entries.first_mut() {
+            first.below = below;
+        }
     }
 
     /// Gives the first part the comment lines of a note.
-    pub(crate) fn note(&mut self, alloc: Global, lines: Vec<Piece<'t>>) -> Result<(), AllocError>
-        ensures { items self.new ≡ items self.old }
-    {
-        let note = RowNote {
+    pub(crate) fn note(&mut self, alloc: Global, lines: Vec<Piece<'t>>) -> Result<(), AllocError> {
+        let mut notes = Vec::new(alloc);
+        notes.push(RowNote {
             end: 0,
             lines,
             comments: Vec::new(alloc),
-        };
-        self.first.notes = vec![in alloc; note]?;
+        })?;
+        if let Some(first) = self.entries.first_mut() {
+            first.notes = notes;
+        }
         Ok(())
     }
 
     /// Gives the first part the entries of a table.
-    pub(crate) fn fill(&mut self, numbers: Vec<i32>, notes: Vec<RowNote<'t>>)
-        ensures head { head self.new ≡ ((head self.old).0, (head self.old).1, numbers.items) }
-        ensures below { below self.new ≡ below self.old }
-    {
-        self.first.numbers = numbers;
-        self.first.notes = notes;
+    pub(crate) fn fill(&mut self, numbers: Vec<i32>, notes: Vec<RowNote<'t>>) {
+        if let Some(first) = self.entries.first_mut() {
+            first.numbers = numbers;
+            first.notes = notes;
+        }
     }
 
     /// Whether the node is that part.
     pub(crate) fn is(&self, part: Part) -> bool {
-        self.first.part == part
+        match self.entries.first() {
+            Some(first) => first.part == part,
+            None => false,
+        }
     }
 }

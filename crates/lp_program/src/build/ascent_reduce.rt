@@ -1,10 +1,5 @@
 //! Reductions and transitions of recursive ascent.
 
-ghost use Rattle.std.specs.Prelude.{◌≡◌, [], ◌∷◌, ◌++◌, map, IfOk, if◌then◌else◌};
-ghost use Rattle.std.specs.Fmt.{decimal};
-ghost use Rattle.lp_program.specs.Built.{text_rows};
-ghost use Rattle.lp_program.specs.ProgramTree.{below, head, leaf};
-
 use super::{add_numbers, bare, text_row};
 use crate::piece::Piece;
 use crate::tree::Node;
@@ -140,10 +135,7 @@ pub fn transition<'t>(
     symbols: Piece<'t>,
     phantom: Piece<'t>,
     returns: bool,
-) -> Result<Node<'t>, AllocError>
-    ensures head { IfOk result (λ n. head n ≡ (Part.Transition, decimal target ∷ arguments.entry ∷ symbols.entry ∷ phantom.entry ∷ [], [])) }
-    ensures below { IfOk result (λ n. below n ≡ text_rows Part.TakeLine (map decimal takes.now) ++ (if returns then leaf Part.ReturnLine [] else [])) }
-{
+) -> Result<Node<'t>, AllocError> {
     let target = Piece::number(alloc, target)?;
     let holes = vec![in alloc; target, arguments, symbols, phantom]?;
     let mut node = Node::leaf(alloc, Part::Transition, holes)?;

@@ -1,13 +1,11 @@
 //! The forms around the modules.
 
 ghost use Rattle.std.specs.Prelude.{◌≡◌, [], ◌∷◌, IfOk, if◌then◌else◌};
-ghost use Rattle.std.specs.List.{flat_map};
-ghost use Rattle.lp_program.specs.Built.{over};
-ghost use Rattle.lp_program.specs.ProgramTree.{items, leaf, program_items};
+ghost use Rattle.lp_program.specs.ProgramTree.{items, leaf};
 
 use super::{add_text, bare, text_row};
 use crate::piece::{Name, Piece};
-use crate::tree::{Node, Program, push_node};
+use crate::tree::{Node, Program};
 use lp_form::Part;
 use std::alloc::{AllocError, Global};
 
@@ -18,14 +16,10 @@ pub fn program<'t>(
     alloc: Global,
     prefix: Piece<'t>,
     below: Vec<Node<'t>>,
-) -> Result<Program<'t>, AllocError>
-    ensures prefix { IfOk result (λ p. p.prefix ≡ prefix.entry) }
-    ensures parts { IfOk result (λ p. program_items p ≡ over Part.Program [] (flat_map items below.entry.items)) }
-{
+) -> Result<Program<'t>, AllocError> {
     let mut node = bare(alloc, Part::Program)?;
     node.add_all(below)?;
-    let mut entries = Vec::new(alloc);
-    push_node(&mut entries, node)?;
+    let Node { entries } = node;
     Ok(Program { prefix, entries })
 }
 

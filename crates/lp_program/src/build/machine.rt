@@ -1,10 +1,5 @@
 //! The struct that the driver asks.
 
-ghost use Rattle.std.specs.Prelude.{◌≡◌, [], ◌∷◌, IfOk};
-ghost use Rattle.std.specs.List.{flat_map};
-ghost use Rattle.lp_program.specs.Built.{text_rows};
-ghost use Rattle.lp_program.specs.ProgramTree.{below, head, items};
-
 use super::{add_names, bare, text_row};
 use crate::piece::{Name, Piece};
 use crate::tree::Node;
@@ -150,10 +145,7 @@ pub fn drive<'t>(
     alloc: Global,
     parameters: Vec<Name<'t>>,
     phantom: Piece<'t>,
-) -> Result<Node<'t>, AllocError>
-    ensures head { IfOk result (λ n. head n ≡ (Part.Drive, phantom.entry ∷ [], [])) }
-    ensures below { IfOk result (λ n. below n ≡ text_rows Part.DriveRow parameters.entry.items) }
-{
+) -> Result<Node<'t>, AllocError> {
     let mut node = text_row(alloc, Part::Drive, phantom)?;
     add_names(alloc, &mut node, Part::DriveRow, parameters)?;
     Ok(node)
@@ -164,10 +156,7 @@ pub fn accepts<'t>(
     alloc: Global,
     phantom: Piece<'t>,
     below: Vec<Node<'t>>,
-) -> Result<Node<'t>, AllocError>
-    ensures head { IfOk result (λ n. head n ≡ (Part.Accepts, phantom.entry ∷ [], [])) }
-    ensures below { IfOk result (λ n. below n ≡ flat_map items below.entry.items) }
-{
+) -> Result<Node<'t>, AllocError> {
     let mut node = text_row(alloc, Part::Accepts, phantom)?;
     node.add_all(below)?;
     Ok(node)

@@ -10,10 +10,8 @@ mod machine;
 mod reductions;
 mod table;
 
-ghost use Rattle.std.specs.Prelude.{◌≡◌, [], ◌∷◌, ◌++◌, map, IfOk, OnOk};
-ghost use Rattle.std.specs.Fmt.{decimal};
-ghost use Rattle.lp_program.specs.ProgramTree.{below, head, items, leaf};
-ghost use Rattle.lp_program.specs.Built.{text_if, text_rows};
+ghost use Rattle.std.specs.Prelude.{◌≡◌, [], ◌∷◌, IfOk};
+ghost use Rattle.lp_program.specs.ProgramTree.{items, leaf};
 
 use crate::piece::{Name, Piece};
 use crate::tree::Node;
@@ -44,9 +42,7 @@ pub use table::{
 
 /// A part of one text.
 fn text_row<'t>(alloc: Global, part: Part, text: Piece<'t>) -> Result<Node<'t>, AllocError>
-    ensures items { IfOk result (λ n. items n ≡ leaf part (text.entry ∷ [])) }
-    ensures head { IfOk result (λ n. head n ≡ (part, text.entry ∷ [], [])) }
-    ensures below { IfOk result (λ n. below n ≡ []) }
+    ensures { IfOk result (λ n. items n ≡ leaf part (text.entry ∷ [])) }
 {
     Node::leaf(alloc, part, vec![in alloc; text]?)
 }
@@ -57,10 +53,7 @@ fn add_texts<'t>(
     node: &mut Node<'t>,
     part: Part,
     texts: Vec<Piece<'t>>,
-) -> Result<(), AllocError>
-    ensures head { head node.new ≡ head node.old }
-    ensures below { OnOk result (below node.new ≡ below node.old ++ text_rows part texts.entry.items) }
-{
+) -> Result<(), AllocError> {
     for text in texts {
         node.add(text_row(alloc, part, text)?)?;
     }
@@ -73,10 +66,7 @@ fn add_names<'t>(
     node: &mut Node<'t>,
     part: Part,
     names: Vec<Name<'t>>,
-) -> Result<(), AllocError>
-    ensures head { head node.new ≡ head node.old }
-    ensures below { OnOk result (below node.new ≡ below node.old ++ text_rows part names.entry.items) }
-{
+) -> Result<(), AllocError> {
     for name in names {
         node.add(text_row(alloc, part, name.into_piece())?)?;
     }
@@ -89,10 +79,7 @@ fn add_numbers<'t>(
     node: &mut Node<'t>,
     part: Part,
     numbers: &[u64],
-) -> Result<(), AllocError>
-    ensures head { head node.new ≡ head node.old }
-    ensures below { OnOk result (below node.new ≡ below node.old ++ text_rows part (map decimal numbers.now)) }
-{
+) -> Result<(), AllocError> {
     for number in numbers {
         node.add(text_row(alloc, part, Piece::number(alloc, *number)?)?)?;
     }
@@ -101,9 +88,7 @@ fn add_numbers<'t>(
 
 /// A part with nothing in it.
 fn bare<'t>(alloc: Global, part: Part) -> Result<Node<'t>, AllocError>
-    ensures items { IfOk result (λ n. items n ≡ leaf part []) }
-    ensures head { IfOk result (λ n. head n ≡ (part, [], [])) }
-    ensures below { IfOk result (λ n. below n ≡ []) }
+    ensures { IfOk result (λ n. items n ≡ leaf part []) }
 {
     Node::leaf(alloc, part, Vec::new(alloc))
 }
@@ -114,10 +99,7 @@ fn add_text<'t>(
     node: &mut Node<'t>,
     part: Part,
     text: Option<Piece<'t>>,
-) -> Result<(), AllocError>
-    ensures head { head node.new ≡ head node.old }
-    ensures below { OnOk result (below node.new ≡ below node.old ++ text_if part text.entry) }
-{
+) -> Result<(), AllocError> {
     match text {
         None => Ok(()),
         Some(text) => node.add(text_row(alloc, part, text)?),

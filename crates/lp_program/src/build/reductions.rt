@@ -1,9 +1,7 @@
 //! Reductions of the table-driven code.
 
-ghost use Rattle.std.specs.Prelude.{◌≡◌, [], ◌∷◌, ◌++◌, IfOk};
-ghost use Rattle.std.specs.List.{flat_map};
-ghost use Rattle.lp_program.specs.Built.{text_if, text_rows};
-ghost use Rattle.lp_program.specs.ProgramTree.{below, head, items, leaf};
+ghost use Rattle.std.specs.Prelude.{◌≡◌, [], IfOk};
+ghost use Rattle.lp_program.specs.ProgramTree.{items, leaf};
 
 use super::{add_text, add_texts, bare, text_row};
 use crate::piece::{Name, Piece};
@@ -189,10 +187,7 @@ pub fn pop<'t>(
     symbol_parameters: Piece<'t>,
     ty: Piece<'t>,
     clauses: Option<Piece<'t>>,
-) -> Result<Node<'t>, AllocError>
-    ensures head { IfOk result (λ n. head n ≡ (Part.Pop, variant.entry ∷ location.entry ∷ symbol_parameters.entry ∷ ty.entry ∷ [], [])) }
-    ensures below { IfOk result (λ n. below n ≡ text_rows Part.PopRow type_parameters.entry.items ++ text_if Part.WhereLine clauses.entry) }
-{
+) -> Result<Node<'t>, AllocError> {
     let holes = vec![in alloc; variant.into_piece(), location, symbol_parameters, ty]?;
     let mut node = Node::leaf(alloc, Part::Pop, holes)?;
     add_texts(alloc, &mut node, Part::PopRow, type_parameters)?;
@@ -201,10 +196,7 @@ pub fn pop<'t>(
 }
 
 /// Form 33: the function of one production. Below it: the header and the body.
-pub fn reduce_fn<'t>(alloc: Global, below: Vec<Node<'t>>) -> Result<Node<'t>, AllocError>
-    ensures head { IfOk result (λ n. head n ≡ (Part.ReduceFn, [], [])) }
-    ensures below { IfOk result (λ n. below n ≡ flat_map items below.entry.items) }
-{
+pub fn reduce_fn<'t>(alloc: Global, below: Vec<Node<'t>>) -> Result<Node<'t>, AllocError> {
     let mut node = bare(alloc, Part::ReduceFn)?;
     node.add_all(below)?;
     Ok(node)

@@ -1,10 +1,8 @@
 //! Tables, and what looks them up.
 
-ghost use Rattle.std.specs.Prelude.{◌≡◌, ◌==◌, [], ◌∷◌, IfOk, if◌then◌else◌};
+ghost use Rattle.std.specs.Prelude.{◌≡◌, [], ◌∷◌, IfOk};
 ghost use Rattle.std.specs.Fmt.{decimal};
-ghost use Rattle.std.specs.List.{flat_map};
-ghost use Rattle.lp_program.specs.Built.{text_rows};
-ghost use Rattle.lp_program.specs.ProgramTree.{below, head, items, leaf};
+ghost use Rattle.lp_program.specs.ProgramTree.{items, leaf};
 
 use super::{add_text, add_texts, bare, text_row};
 use crate::piece::{Name, Piece};
@@ -46,10 +44,7 @@ fn table<'t>(
     state_type: Name<'t>,
     entries: Vec<i32>,
     notes: Vec<RowNote<'t>>,
-) -> Result<Node<'t>, AllocError>
-    ensures head { IfOk result (λ n. head n ≡ (part, state_type.entry ∷ [], entries.entry.items)) }
-    ensures below { IfOk result (λ n. below n ≡ []) }
-{
+) -> Result<Node<'t>, AllocError> {
     let mut node = text_row(alloc, part, state_type.into_piece())?;
     node.fill(entries, notes);
     Ok(node)
@@ -62,10 +57,7 @@ pub fn action_table<'t>(
     state_type: Name<'t>,
     entries: Vec<i32>,
     notes: Vec<RowNote<'t>>,
-) -> Result<Node<'t>, AllocError>
-    ensures head { IfOk result (λ n. head n ≡ (Part.ActionTable, state_type.entry ∷ [], entries.entry.items)) }
-    ensures below { IfOk result (λ n. below n ≡ []) }
-{
+) -> Result<Node<'t>, AllocError> {
     table(alloc, Part::ActionTable, state_type, entries, notes)
 }
 
@@ -74,9 +66,7 @@ pub fn action_lookup<'t>(
     alloc: Global,
     state_type: Name<'t>,
     terminals: u64,
-) -> Result<Node<'t>, AllocError>
-    ensures { IfOk result (λ n. items n ≡ if terminals == 1 then leaf Part.ActionLookupOne (state_type.entry ∷ []) else leaf Part.ActionLookup (state_type.entry ∷ decimal terminals ∷ [])) }
-{
+) -> Result<Node<'t>, AllocError> {
     let state_type = state_type.into_piece();
     if terminals == 1 {
         return text_row(alloc, Part::ActionLookupOne, state_type);
@@ -95,10 +85,7 @@ pub fn eof_table<'t>(
     state_type: Name<'t>,
     entries: Vec<i32>,
     notes: Vec<RowNote<'t>>,
-) -> Result<Node<'t>, AllocError>
-    ensures head { IfOk result (λ n. head n ≡ (Part.EofTable, state_type.entry ∷ [], entries.entry.items)) }
-    ensures below { IfOk result (λ n. below n ≡ []) }
-{
+) -> Result<Node<'t>, AllocError> {
     table(alloc, Part::EofTable, state_type, entries, notes)
 }
 
@@ -107,10 +94,7 @@ pub fn goto_fn<'t>(
     alloc: Global,
     state_type: Name<'t>,
     below: Vec<Node<'t>>,
-) -> Result<Node<'t>, AllocError>
-    ensures head { IfOk result (λ n. head n ≡ (Part.GotoFn, state_type.entry ∷ [], [])) }
-    ensures below { IfOk result (λ n. below n ≡ flat_map items below.entry.items) }
-{
+) -> Result<Node<'t>, AllocError> {
     let mut node = text_row(alloc, Part::GotoFn, state_type.into_piece())?;
     node.add_all(below)?;
     Ok(node)
@@ -193,10 +177,7 @@ pub fn goto_match<'t>(
 }
 
 /// Form 18: the names of the terminals, without the error terminal.
-pub fn terminal_list<'t>(alloc: Global, terminals: Vec<Piece<'t>>) -> Result<Node<'t>, AllocError>
-    ensures head { IfOk result (λ n. head n ≡ (Part.TerminalList, [], [])) }
-    ensures below { IfOk result (λ n. below n ≡ text_rows Part.TerminalRow terminals.entry.items) }
-{
+pub fn terminal_list<'t>(alloc: Global, terminals: Vec<Piece<'t>>) -> Result<Node<'t>, AllocError> {
     let mut node = bare(alloc, Part::TerminalList)?;
     add_texts(alloc, &mut node, Part::TerminalRow, terminals)?;
     Ok(node)
@@ -215,10 +196,7 @@ pub fn expected_from_states<'t>(
     alloc: Global,
     phantom: Piece<'t>,
     below: Vec<Node<'t>>,
-) -> Result<Node<'t>, AllocError>
-    ensures head { IfOk result (λ n. head n ≡ (Part.ExpectedFromStates, phantom.entry ∷ [], [])) }
-    ensures below { IfOk result (λ n. below n ≡ flat_map items below.entry.items) }
-{
+) -> Result<Node<'t>, AllocError> {
     let mut node = text_row(alloc, Part::ExpectedFromStates, phantom)?;
     node.add_all(below)?;
     Ok(node)
@@ -248,10 +226,7 @@ pub fn token_to_integer<'t>(
 }
 
 /// Form 24: the value of a token. Below it: the header and the arms.
-pub fn token_to_symbol<'t>(alloc: Global, below: Vec<Node<'t>>) -> Result<Node<'t>, AllocError>
-    ensures head { IfOk result (λ n. head n ≡ (Part.TokenToSymbol, [], [])) }
-    ensures below { IfOk result (λ n. below n ≡ flat_map items below.entry.items) }
-{
+pub fn token_to_symbol<'t>(alloc: Global, below: Vec<Node<'t>>) -> Result<Node<'t>, AllocError> {
     let mut node = bare(alloc, Part::TokenToSymbol)?;
     node.add_all(below)?;
     Ok(node)

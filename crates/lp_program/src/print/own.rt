@@ -4,7 +4,7 @@ ghost use Rattle.std.specs.Prelude.{◌≡◌, ◌++◌, [], ◌∷◌, map, rep
 ghost use Rattle.lp_form.specs.Templates.{piece};
 ghost use Rattle.lp_program.specs.Lines.{line_of};
 ghost use Rattle.lp_program.specs.OwnLines.{code_lines, hole, note_lines, own_lines};
-ghost use Rattle.lp_program.specs.ProgramTree.{content, forest, note, tree_count};
+ghost use Rattle.lp_program.specs.Trees.{content, forest, note, tree_count};
 ghost use Rattle.lp_write.specs.Lines.Line.{line};
 ghost use Rattle.lp_write.specs.Writes.{options_of, writing, Writes, write_ending};
 

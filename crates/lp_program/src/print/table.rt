@@ -2,7 +2,7 @@
 
 ghost use Rattle.std.specs.Prelude.{◌≡◌, ◌++◌, [], ◌∷◌, map, get_or, codes, IfOk, if◌then◌else◌};
 ghost use Rattle.std.specs.Fmt.{decimal};
-ghost use Rattle.lp_program.specs.ProgramTree.{note};
+ghost use Rattle.lp_program.specs.Trees.{note};
 ghost use Rattle.lp_program.specs.TableRows.{commented, entry_lines, last_lines, row_entry, row_lines, table_lines};
 ghost use Rattle.lp_write.specs.Lines.Line.{line};
 ghost use Rattle.lp_write.specs.Writes.{options_of, writing, Writes, write_ending};

@@ -5,8 +5,8 @@ ghost use Rattle.std.specs.List.{prefix_len};
 ghost use Rattle.lp_form.specs.Templates.{piece};
 ghost use Rattle.lp_program.specs.Places.{printed_from, takes_next, IsAfter, place_ending};
 ghost use Rattle.lp_program.specs.OwnLines.{own_lines};
-ghost use Rattle.lp_program.specs.Printed.{all_lines, is_member, lines, node_lines, part_lines, takes, takes_one, taken};
-ghost use Rattle.lp_program.specs.ProgramTree.{content, forest, tree_count};
+ghost use Rattle.lp_program.specs.Printed.{all_lines, is_member, lines, list_lines, node_lines, part_lines, takes, takes_one, taken};
+ghost use Rattle.lp_program.specs.Trees.{content, forest, tree_count};
 ghost use Rattle.lp_write.specs.declared.rust.Options.{Options};
 ghost use Rattle.lp_write.specs.Writes.{options_of, writing, Writes, write_ending};
 
@@ -26,15 +26,10 @@ pub fn print_program<W: Sink>(
 ) -> Result<(), WriteError>
     ensures { Writes (write_ending result) (writing W.told out.old) (writing W.told out.new) (lines (options_of out.old) program.now) }
 {
-    let entries = program.entries.as_slice();
-    if entries.is_empty() {
-        return Ok(());
-    }
-    print_part(
+    print_list(
         alloc,
         program.prefix.as_str(),
-        &entries[0],
-        &entries[1..],
+        program.entries.as_slice(),
         out,
     )
 }
@@ -48,7 +43,22 @@ pub fn print_node<W: Sink>(
 ) -> Result<(), WriteError>
     ensures { Writes (write_ending result) (writing W.told out.old) (writing W.told out.new) (node_lines (options_of out.old) prefix.now node.now) }
 {
-    print_part(alloc, prefix, &node.first, node.below.as_slice(), out)
+    print_list(alloc, prefix, node.entries.as_slice(), out)
+}
+
+/// Appends the lines of a list of parts: of its first part, with all others below it.
+fn print_list<W: Sink>(
+    alloc: Global,
+    prefix: &str,
+    entries: &[Entry<'_>],
+    out: &mut RustWrite<W>,
+) -> Result<(), WriteError>
+    ensures { Writes (write_ending result) (writing W.told out.old) (writing W.told out.new) (list_lines (options_of out.old) prefix.now entries.now) }
+{
+    if entries.is_empty() {
+        return Ok(());
+    }
+    print_part(alloc, prefix, &entries[0], &entries[1..], out)
 }
 
 /// Appends the lines of a part, with those of all below it.
@@ -192,7 +202,7 @@ fn takes_one(step: Step) -> bool
 }
 
 /// Whether a part belongs to a class.
-pub(crate) fn is_member(class: Class, part: Part) -> bool
+fn is_member(class: Class, part: Part) -> bool
     ensures { result ≡ is_member class part }
 {
     members(class).contains(&part)

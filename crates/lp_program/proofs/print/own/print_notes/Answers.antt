@@ -4,7 +4,7 @@ use Rattle.std.proofs.lemmas.Result.{err_from_is_err_and}
 use Rattle.lp_write.specs.Lines.Line.{line}
 use Rattle.lp_program.specs.declared.tree.RowNote.{RowNote}
 use Rattle.lp_program.specs.OwnLines.{note_lines}
-use Rattle.lp_program.specs.ProgramTree.{note}
+use Rattle.lp_program.specs.Trees.{note}
 use Rattle.lp_program.proofs.Progress.{left-more, left-stopped}
 use Rattle.lp_program.proofs.print.own.print_notes.Goals as goal
 

@@ -1,7 +1,7 @@
 use Rattle.std.proofs.Common.{map, drop}
 use Rattle.lp_write.specs.Writes.{writing}
 use Rattle.lp_program.specs.OwnLines.{note_lines}
-use Rattle.lp_program.specs.ProgramTree.{note}
+use Rattle.lp_program.specs.Trees.{note}
 use Rattle.lp_program.proofs.Progress.{Left}
 use Rattle.lp_program.proofs.print.own.print_notes.Given as goal
 

@@ -1,5 +1,5 @@
 use Rattle.std.proofs.Common.{◌≡◌, ◌-◌, ◌+◌, ◌≤◌, length, drop}
-use Rattle.lp_program.specs.ProgramTree.{forest, tree_count}
+use Rattle.lp_program.specs.Trees.{forest, tree_count}
 use Rattle.lp_program.proofs.print.own.tree_count.Given as goal
 
 abbrev pub invariant-loop-at : goal.invariant-loop-at

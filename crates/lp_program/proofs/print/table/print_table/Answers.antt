@@ -2,7 +2,7 @@ use Rattle.std.proofs.Common.{◌-◌, arith, take, drop, length, map, rules, su
 use Rattle.std.proofs.lemmas.List.{take_rest}
 use Rattle.std.proofs.lemmas.Result.{err_from_is_err_and}
 use Rattle.lp_write.specs.Writes.{options_of, write_ending, writing}
-use Rattle.lp_program.specs.ProgramTree.{note}
+use Rattle.lp_program.specs.Trees.{note}
 use Rattle.lp_program.specs.TableRows.{last_lines, row_lines, table_lines}
 use Rattle.lp_program.proofs.Progress.{Left, left-last, left-more, left-stopped}
 use Rattle.lp_program.proofs.Rows.{rows-last, rows-next}

@@ -1,6 +1,6 @@
 use Rattle.std.proofs.Common.{◌≤◌, length, map, drop}
 use Rattle.lp_write.specs.Writes.{options_of, writing}
-use Rattle.lp_program.specs.ProgramTree.{note}
+use Rattle.lp_program.specs.Trees.{note}
 use Rattle.lp_program.specs.TableRows.{rows_from, table_lines}
 use Rattle.lp_program.proofs.Progress.{Left}
 use Rattle.lp_program.proofs.print.table.print_table.Given as goal
