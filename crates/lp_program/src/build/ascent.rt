@@ -1,7 +1,8 @@
 //! State functions of recursive ascent, and what their trials ask.
 
-ghost use Rattle.std.specs.Prelude.{◌≡◌, [], ◌∷◌, IfOk};
-ghost use Rattle.lp_program.specs.ProgramTree.{items, leaf};
+ghost use Rattle.std.specs.Prelude.{◌≡◌, [], ◌∷◌, ◌++◌, map, IfOk};
+ghost use Rattle.lp_program.specs.Built.{return_row, text_if};
+ghost use Rattle.lp_program.specs.ProgramTree.{below, head, items, leaf};
 
 use super::machine::Reduced;
 use super::{add_numbers, add_text, bare, text_row};
@@ -40,7 +41,10 @@ pub fn return_enum<'t>(
     type_parameters: Piece<'t>,
     clauses: Option<Piece<'t>>,
     variants: Vec<ReturnVariant<'t>>,
-) -> Result<Node<'t>, AllocError> {
+) -> Result<Node<'t>, AllocError>
+    ensures head { IfOk result (λ n. head n ≡ (Part.ReturnEnum, type_parameters.entry ∷ [], [])) }
+    ensures below { IfOk result (λ n. below n ≡ text_if Part.WhereLine clauses.entry ++ map return_row variants.entry.items) }
+{
     let mut node = text_row(alloc, Part::ReturnEnum, type_parameters)?;
     add_text(alloc, &mut node, Part::WhereLine, clauses)?;
     for variant in variants {

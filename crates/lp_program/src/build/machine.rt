@@ -1,8 +1,8 @@
 //! The struct that the driver asks.
 
-ghost use Rattle.std.specs.Prelude.{◌≡◌, [], ◌∷◌, IfOk};
+ghost use Rattle.std.specs.Prelude.{◌≡◌, [], ◌∷◌, map, IfOk};
 ghost use Rattle.std.specs.List.{flat_map};
-ghost use Rattle.lp_program.specs.Built.{text_rows};
+ghost use Rattle.lp_program.specs.Built.{field_row, text_rows};
 ghost use Rattle.lp_program.specs.ProgramTree.{below, head, items};
 
 use super::{add_names, bare, text_row};
@@ -26,7 +26,10 @@ pub fn machine_struct<'t>(
     clauses: Piece<'t>,
     fields: Vec<Field<'t>>,
     phantom: Piece<'t>,
-) -> Result<Node<'t>, AllocError> {
+) -> Result<Node<'t>, AllocError>
+    ensures head { IfOk result (λ n. head n ≡ (Part.MachineStruct, type_parameters.entry ∷ clauses.entry ∷ phantom.entry ∷ [], [])) }
+    ensures below { IfOk result (λ n. below n ≡ map field_row fields.entry.items) }
+{
     let holes = vec![in alloc; type_parameters, clauses, phantom]?;
     let mut node = Node::leaf(alloc, Part::MachineStruct, holes)?;
     for field in fields {

@@ -1,9 +1,9 @@
 //! Tables, and what looks them up.
 
-ghost use Rattle.std.specs.Prelude.{◌≡◌, ◌==◌, [], ◌∷◌, IfOk, if◌then◌else◌};
+ghost use Rattle.std.specs.Prelude.{◌≡◌, ◌==◌, [], ◌∷◌, ◌++◌, map, IfOk, if◌then◌else◌};
 ghost use Rattle.std.specs.Fmt.{decimal};
 ghost use Rattle.std.specs.List.{flat_map};
-ghost use Rattle.lp_program.specs.Built.{text_rows};
+ghost use Rattle.lp_program.specs.Built.{integer_row, text_if, text_rows, variant_row};
 ghost use Rattle.lp_program.specs.ProgramTree.{below, head, items, leaf};
 
 use super::{add_text, add_texts, bare, text_row};
@@ -25,7 +25,10 @@ pub fn symbol_enum<'t>(
     type_parameters: Piece<'t>,
     clauses: Option<Piece<'t>>,
     variants: Vec<Variant<'t>>,
-) -> Result<Node<'t>, AllocError> {
+) -> Result<Node<'t>, AllocError>
+    ensures head { IfOk result (λ n. head n ≡ (Part.SymbolEnum, type_parameters.entry ∷ [], [])) }
+    ensures below { IfOk result (λ n. below n ≡ text_if Part.WhereLine clauses.entry ++ map variant_row variants.entry.items) }
+{
     let mut node = text_row(alloc, Part::SymbolEnum, type_parameters)?;
     add_text(alloc, &mut node, Part::WhereLine, clauses)?;
     for variant in variants {
@@ -236,7 +239,10 @@ pub fn token_to_integer<'t>(
     alloc: Global,
     arms: Vec<IntegerArm<'t>>,
     below: Vec<Node<'t>>,
-) -> Result<Node<'t>, AllocError> {
+) -> Result<Node<'t>, AllocError>
+    ensures head { IfOk result (λ n. head n ≡ (Part.TokenToInteger, [], [])) }
+    ensures below { IfOk result (λ n. below n ≡ flat_map items below.entry.items ++ map integer_row arms.entry.items) }
+{
     let mut node = bare(alloc, Part::TokenToInteger)?;
     node.add_all(below)?;
     for arm in arms {
