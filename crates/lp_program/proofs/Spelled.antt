@@ -5,7 +5,8 @@ use Rattle.std.specs.Str.Pattern.{FindsTextPrefix}
 use Rattle.std.proofs.lemmas.List.{get_or_append_left}
 use Rattle.lp_form.specs.declared.template.Slot.{Slot}
 use Rattle.lp_form.specs.declared.template.Slot.TheVariants.{Nothing, Prefix, Hole}
-use Rattle.lp_program.specs.Lines.{Part, part, slot_text, line_of, IsTold, AreTold, TakesSlot, TakesParts}
+use Rattle.lp_form.specs.Templates.{Piece}
+use Rattle.lp_program.specs.Lines.{slot_text, line_of, IsTold, AreTold, TakesSlot, TakesParts}
 
 -- what is left of a text whose front is off
 pub front_off : (front text : List ℕ) (r : Option (Bor (List ℕ))) →
@@ -22,7 +23,7 @@ slot_stays prefix known more Prefix h = refl
 slot_stays prefix known more (Hole k) h = get_or_append_left known more [] k h
 
 -- more holes change nothing in parts that are told
-line_stays : (prefix : List ℕ) (known more : List (List ℕ)) (parts : List Part) → AreTold (length known) parts →
+line_stays : (prefix : List ℕ) (known more : List (List ℕ)) (parts : List Piece) → AreTold (length known) parts →
     line_of prefix (known ++ more) parts ≡ line_of prefix known parts
 unfolding line_of AreTold
 line_stays prefix known more [] h = refl
@@ -31,7 +32,7 @@ line_stays prefix known more (p ∷ ps) h =
     ∙ ap (λ x. (p.0 ++ slot_text prefix known p.1) ++ x) (line_stays prefix known more ps h.1)
 
 -- one part more
-line_more : (prefix : List ℕ) (known : List (List ℕ)) (parts : List Part) (p : Part) →
+line_more : (prefix : List ℕ) (known : List (List ℕ)) (parts : List Piece) (p : Piece) →
     line_of prefix known (parts ++ p ∷ []) ≡ line_of prefix known parts ++ (p.0 ++ slot_text prefix known p.1)
 unfolding line_of
 line_more prefix known [] p = append-nil _
@@ -44,7 +45,7 @@ told_more n m Nothing l h = tt
 told_more n m Prefix l h = tt
 told_more n m (Hole k) l h = omega arith
 
-told_then : (n m : ℕ) (parts : List Part) (p : Part) → n ≤ m → AreTold n parts → IsTold m p.1 → AreTold m (parts ++ p ∷ [])
+told_then : (n m : ℕ) (parts : List Piece) (p : Piece) → n ≤ m → AreTold n parts → IsTold m p.1 → AreTold m (parts ++ p ∷ [])
 unfolding AreTold
 told_then n m [] p l h i = (i, tt)
 told_then n m (q ∷ qs) p l h i = (told_more n m q.1 l h.0, told_then n m qs p l h.1 i)
@@ -55,7 +56,7 @@ unfolding line_of AreTold
 takes_none prefix known text = record { more = []; known = sym (append-nil known); told = tt; spelled = refl }
 
 -- parts, a literal text, and what follows it
-pub takes_more : (prefix : List ℕ) (parts : List Part) (p : Part) (old mid new : List (List ℕ)) (text rest after left : List ℕ) →
+pub takes_more : (prefix : List ℕ) (parts : List Piece) (p : Piece) (old mid new : List (List ℕ)) (text rest after left : List ℕ) →
     TakesParts prefix parts old mid text rest → rest ≡ p.0 ++ after → TakesSlot prefix p.1 mid new after left →
     TakesParts prefix (parts ++ p ∷ []) old new text left
 takes_more prefix parts p old mid new text rest after left a e s =

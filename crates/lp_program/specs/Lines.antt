@@ -1,16 +1,8 @@
 -- The text of a line: literal texts, the prefix, and what the holes hold.
-use Rattle.std.specs.Prelude.{◌≡◌, ℕ, ◌<◌, List, [], ◌∷◌, ◌++◌, length, map, get_or}
-use denote.Ref.{Bor}
+use Rattle.std.specs.Prelude.{◌≡◌, ℕ, ◌<◌, List, [], ◌∷◌, ◌++◌, length, get_or}
+use Rattle.lp_form.specs.Templates.{Piece}
 use Rattle.lp_form.specs.declared.template.Slot.{Slot}
 use Rattle.lp_form.specs.declared.template.Slot.TheVariants.{Nothing, Prefix, Hole}
-
--- a literal text, and what follows it
-abbrev pub Part : Type 0
-Part = List ℕ × Slot
-
--- a part as it stands behind the code's reference
-abbrev pub part : Bor (List ℕ) × Slot → Part
-part p = (p.0.now, p.1)
 
 -- the text of a slot
 abbrev pub slot_text : List ℕ → List (List ℕ) → Slot → List ℕ
@@ -19,7 +11,7 @@ slot_text prefix holes Prefix = prefix
 slot_text prefix holes (Hole k) = get_or holes k []
 
 -- a line: each literal text, and what follows it
-unfoldable pub line_of : List ℕ → List (List ℕ) → List Part → List ℕ
+unfoldable pub line_of : List ℕ → List (List ℕ) → List Piece → List ℕ
 line_of prefix holes [] = []
 line_of prefix holes (p ∷ ps) = (p.0 ++ slot_text prefix holes p.1) ++ line_of prefix holes ps
 
@@ -29,8 +21,8 @@ IsTold n Nothing = Unit {0}
 IsTold n Prefix = Unit {0}
 IsTold n (Hole k) = k < n
 
--- parts with none of the holes from n on
-unfoldable pub AreTold : ℕ → List Part → Type 0
+-- pieces with none of the holes from n on
+unfoldable pub AreTold : ℕ → List Piece → Type 0
 AreTold n [] = Unit {0}
 AreTold n (p ∷ ps) = IsTold n p.1 × AreTold n ps
 
@@ -41,8 +33,8 @@ pub record TakesSlot (prefix : List ℕ) (slot : Slot) (old new : List (List ℕ
   pub told : IsTold (length new) slot
   pub spelled : text ≡ slot_text prefix new slot ++ rest
 
--- the parts spell what stands in front, where the holes that are known become these
-pub record TakesParts (prefix : List ℕ) (parts : List Part) (old new : List (List ℕ)) (text rest : List ℕ) : Type 0 where
+-- the pieces spell what stands in front, where the holes that are known become these
+pub record TakesParts (prefix : List ℕ) (parts : List Piece) (old new : List (List ℕ)) (text rest : List ℕ) : Type 0 where
   pub more : List (List ℕ)
   pub known : new ≡ old ++ more
   pub told : AreTold (length new) parts

@@ -1,7 +1,8 @@
 //! The text of a line from its template.
 
 ghost use Rattle.std.specs.Prelude.{◌≡◌, ◌++◌, map, replicate, string_bytes, IfOk, OnOk};
-ghost use Rattle.lp_program.specs.Lines.{part, slot_text, line_of};
+ghost use Rattle.lp_form.specs.Templates.{piece};
+ghost use Rattle.lp_program.specs.Lines.{slot_text, line_of};
 
 use crate::piece::Piece;
 use lp_form::Slot;
@@ -48,7 +49,7 @@ pub(crate) fn line_text(
     blanks: u8,
     parts: &[LinePart],
 ) -> Result<String, AllocError>
-    ensures { IfOk result (λ s. string_bytes s ≡ replicate blanks 32 ++ line_of prefix.now holes.now (map part parts.now)) }
+    ensures { IfOk result (λ s. string_bytes s ≡ replicate blanks 32 ++ line_of prefix.now holes.now (map piece parts.now)) }
 {
     let mut text = blanks_text(alloc, blanks)?;
     for part in parts {

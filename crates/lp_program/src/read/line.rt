@@ -4,7 +4,8 @@ ghost use Rattle.std.specs.Prelude.{◌≡◌, ◌++◌, ◌<◌, ◌≤◌, [],
 ghost use Rattle.std.specs.Bool.{OnTrue};
 ghost use Rattle.std.specs.Str.{IsUtf8};
 ghost use Rattle.lp_form.specs.declared.template.Slot.TheVariants.{Hole};
-ghost use Rattle.lp_program.specs.Lines.{part, TakesSlot, TakesParts};
+ghost use Rattle.lp_form.specs.Templates.{piece};
+ghost use Rattle.lp_program.specs.Lines.{TakesSlot, TakesParts};
 
 use crate::piece::Piece;
 use crate::read::fill::{digit_run, may_fill, own_run, visibility_len, word_run};
@@ -223,7 +224,7 @@ pub(crate) fn read_line<'t>(
     known: &mut Vec<Piece<'t>>,
     line: &'t str,
 ) -> Result<bool, AllocError>
-    ensures { IfOk result (λ b. OnTrue b (TakesParts scope.entry.prefix.now (map part parts.now) known.old.items known.new.items line.now [])) }
+    ensures { IfOk result (λ b. OnTrue b (TakesParts scope.entry.prefix.now (map piece parts.now) known.old.items known.new.items line.now [])) }
 {
     let mut rest = line;
     for (i, part) in parts.iter().enumerate() {

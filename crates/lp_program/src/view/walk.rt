@@ -1,6 +1,7 @@
 //! Walking over the forms of a program.
 
-ghost use Rattle.std.specs.Prelude.{◌≡◌, ◌<◌, ◌≤◌, length};
+ghost use Rattle.std.specs.Prelude.{◌≡◌, ◌+◌, ◌<◌, ◌≤◌, get_or, length, min};
+ghost use Rattle.lp_program.specs.declared.tree.Entry.{Entry};
 ghost use Rattle.std.specs.Iterator.{at_most};
 
 use crate::tree::{Entry, Program};
@@ -67,6 +68,7 @@ pub(crate) fn end_of(entries: &[Entry<'_>], at: usize) -> usize
     requires { at < length entries.now }
     ensures after { at < result }
     ensures within { result ≤ length entries.now }
+    ensures place { (e : Entry) → result ≡ min (at + 1 + (get_or entries.now at e).below) (length entries.now) }
 {
     let len = entries.len();
     let below = entries[at].below;
