@@ -33,7 +33,8 @@ fn wants(case: Case<'_>) -> bool {
 }
 
 fn read_run(alloc: Global, example: &Example, case: Case<'_>) -> Result<Run, AllocError> {
-    let mut words = case.words.split_whitespace().skip(1);
+    let mut words = case.words.split_whitespace();
+    let _lists = words.next();
     let moves = long_number(words.next().unwrap_or(""));
     let steps = long_number(words.next().unwrap_or(""));
     let items = read_items(alloc, case.part("items").unwrap_or(""))?;

@@ -34,7 +34,7 @@ pub fn read_example(alloc: Global, text: &str) -> Result<Example, AllocError> {
 }
 
 fn grammar(alloc: Global, text: &str) -> Result<Grammar, AllocError> {
-    let mends = text.lines().any(|line| line == "mends");
+    let mends = mends(text);
     let parameters = parameters(alloc, text)?;
     let all = terminals(alloc, text, mends)?;
     let conversions = conversions(alloc, text)?;
@@ -62,6 +62,15 @@ fn grammar(alloc: Global, text: &str) -> Result<Grammar, AllocError> {
         types: types(alloc),
         module_attributes: Items::new(alloc),
     })
+}
+
+fn mends(text: &str) -> bool {
+    for line in text.lines() {
+        if line == "mends" {
+            return true;
+        }
+    }
+    false
 }
 
 // The start "__S" of "S".
