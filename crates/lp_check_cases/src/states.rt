@@ -2,11 +2,8 @@
 //! production 1 is `__S = S`; `"a"` is terminal 0, and `S` is nonterminal 0.
 
 use lp_repr::{Item, Items, Lr1State, Token};
-use lp_tables::check_tables;
-use lp_valid_cases::one_rule::grammar;
 use std::alloc::{AllocError, Global};
 use std::collections::BTreeMap;
-use std::test::Fail;
 
 /// A list of end of input alone.
 fn end(alloc: Global) -> Result<Items<Token>, AllocError> {
@@ -15,7 +12,7 @@ fn end(alloc: Global) -> Result<Items<Token>, AllocError> {
     Ok(Items(tokens))
 }
 
-pub(crate) fn item(alloc: Global, production: usize, index: usize) -> Result<Item, AllocError> {
+pub fn item(alloc: Global, production: usize, index: usize) -> Result<Item, AllocError> {
     let lookahead = end(alloc)?;
     Ok(Item {
         production,
@@ -25,10 +22,7 @@ pub(crate) fn item(alloc: Global, production: usize, index: usize) -> Result<Ite
 }
 
 /// A reduction at the end of input.
-pub(crate) fn reduction(
-    alloc: Global,
-    production: usize,
-) -> Result<(Items<Token>, usize), AllocError> {
+pub fn reduction(alloc: Global, production: usize) -> Result<(Items<Token>, usize), AllocError> {
     Ok((end(alloc)?, production))
 }
 
@@ -61,19 +55,10 @@ fn complete(alloc: Global, production: usize) -> Result<Lr1State, AllocError> {
 }
 
 /// The first state, the one after `"a"` and the one after `S`.
-pub(crate) fn states(alloc: Global) -> Result<Vec<Lr1State>, AllocError> {
+pub fn states(alloc: Global) -> Result<Vec<Lr1State>, AllocError> {
     let mut states = Vec::new(alloc);
     states.push(first(alloc)?)?;
     states.push(complete(alloc, 0)?)?;
     states.push(complete(alloc, 1)?)?;
     Ok(states)
-}
-
-#[test]
-fn valid_tables_pass(rt: HostRuntime) -> Result<(), Fail> {
-    let alloc = rt.alloc();
-    let states = states(alloc)?;
-    let grammar = grammar(alloc)?;
-    assert_eq!(rt; check_tables(alloc, &grammar, 0, &states), Ok(()));
-    Ok(())
 }

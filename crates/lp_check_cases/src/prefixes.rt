@@ -1,30 +1,24 @@
-//! Texts that hold the prefix.
+//! Changes by which a text holds the prefix.
 
-use crate::one_rule::grammar;
 use crate::parts::{nominal, one, text};
-use crate::refused::refuses;
 use lp_repr::Items;
 use lp_repr::parse_tree::Path;
 use lp_repr::repr::{Grammar, NominalTypeRepr, TerminalString, TypeRepr};
-use lp_valid::check_grammar;
 use std::alloc::{AllocError, Global};
-use std::test::Fail;
 
-#[test]
-fn a_use_does_not_hold_the_prefix(rt: HostRuntime) -> Result<(), Fail> {
-    let alloc = rt.alloc();
-    let mut broken = grammar(alloc)?;
+pub fn a_use_does_not_hold_the_prefix(
+    alloc: Global,
+    broken: &mut Grammar,
+) -> Result<(), AllocError> {
     broken.uses = one(alloc, text(alloc, "a__b")?)?;
-    refuses(&rt, alloc, &broken, 3, 11);
     Ok(())
 }
 
-#[test]
-fn a_type_does_not_hold_the_prefix(rt: HostRuntime) -> Result<(), Fail> {
-    let alloc = rt.alloc();
-    let mut broken = grammar(alloc)?;
+pub fn a_type_does_not_hold_the_prefix(
+    alloc: Global,
+    broken: &mut Grammar,
+) -> Result<(), AllocError> {
     broken.types.error = Some(nominal(alloc, "My__Error")?);
-    refuses(&rt, alloc, &broken, 3, 5);
     Ok(())
 }
 
@@ -55,28 +49,11 @@ fn recovery_type(alloc: Global, token: &str) -> Result<TypeRepr, AllocError> {
     Ok(TypeRepr::Nominal(NominalTypeRepr { path, types }))
 }
 
-/// The grammar with an error terminal, whose type has this token type in it.
-fn recovering(alloc: Global, token: &str) -> Result<Grammar, AllocError> {
-    let mut grammar = grammar(alloc)?;
+/// Gives the grammar an error terminal, whose type has this token type in it.
+pub fn recovering(alloc: Global, grammar: &mut Grammar, token: &str) -> Result<(), AllocError> {
     grammar.uses_error_recovery = true;
     grammar.terminals.all.0.push(TerminalString::Error)?;
     let ty = recovery_type(alloc, token)?;
-    grammar.types.terminals.insert(TerminalString::Error, ty)?;
-    Ok(grammar)
-}
-
-#[test]
-fn the_type_of_the_error_terminal_holds_the_prefix(rt: HostRuntime) -> Result<(), Fail> {
-    let alloc = rt.alloc();
-    let grammar = recovering(alloc, "Tok")?;
-    assert_eq!(rt; check_grammar(alloc, &grammar), Ok(()));
-    Ok(())
-}
-
-#[test]
-fn the_type_of_the_error_terminal_has_the_type_of_tokens(rt: HostRuntime) -> Result<(), Fail> {
-    let alloc = rt.alloc();
-    let broken = recovering(alloc, "Tik")?;
-    refuses(&rt, alloc, &broken, 3, 6);
+    let _none = grammar.types.terminals.insert(TerminalString::Error, ty)?;
     Ok(())
 }

@@ -2,7 +2,7 @@
 
 use lp_repr::parse_tree::{Path, Visibility};
 use lp_repr::repr::{
-    ActionFnDefn, ActionFnDefnKind, NominalTypeRepr, NonterminalData, NonterminalString,
+    ActionFnDefn, ActionFnDefnKind, Grammar, NominalTypeRepr, NonterminalData, NonterminalString,
     Production, Symbol, TerminalString, TokenPattern, TypeRepr,
 };
 use lp_repr::{Items, Text};
@@ -92,4 +92,16 @@ pub fn data(productions: Items<Production>) -> NonterminalData {
         visibility: Visibility::Priv,
         productions,
     }
+}
+
+/// Puts the productions under the nonterminal, in place of its own.
+pub fn redefine(
+    alloc: Global,
+    grammar: &mut Grammar,
+    name: &str,
+    productions: Items<Production>,
+) -> Result<(), AllocError> {
+    let name = nonterminal(alloc, name)?;
+    let _old = grammar.nonterminals.insert(name, data(productions))?;
+    Ok(())
 }
