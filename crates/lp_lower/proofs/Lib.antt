@@ -1,0 +1,9 @@
+pub mod Combining
+pub mod Extents
+pub mod FirstNumbers
+pub mod Leasts
+pub mod OrderSteps
+pub mod Putting
+pub mod RepeatSteps
+pub mod SideSteps
+pub mod Walking

@@ -1,0 +1,255 @@
+//! The actions of the lowered grammar, in their order.
+
+ghost use Rattle.std.specs.Prelude.{◌≡◌, ◌++◌, IfOk, OnOk, map, filter};
+ghost use Rattle.lp_repr.specs.TypeTrees.{type_tree};
+ghost use Rattle.lp_lower.specs.Actions.{action_tree, start_action, lookaround_actions, user_action, inline_action, alternative_actions, rule_actions, actions_from, actions_of};
+ghost use Rattle.lp_lower.specs.Expansion.{sources};
+ghost use Rattle.lp_lower.specs.Extents.{extent_of};
+ghost use Rattle.lp_lower.specs.Framing.{frame_of};
+ghost use Rattle.lp_lower.specs.Naming.{target};
+ghost use Rattle.lp_lower.specs.RightSides.{inline_sides};
+ghost use Rattle.lp_lower.specs.TypeOf.{target_tree};
+
+use crate::combine::Combination;
+use crate::expand::{Sources, action_count, actions_in, combined, is_replaced};
+use crate::extents::Extent;
+use crate::frame::{Frame, sum};
+use crate::names::Names;
+use crate::plain::{PlainAlternative, PlainGrammar, PlainRule};
+use crate::types::{location_type, prefixed, target_type};
+use lp_repr::repr::{ActionFnDefn, ActionFnDefnKind, LookaroundActionFn, TypeRepr};
+use lp_repr::text::{Items, Text};
+use std::alloc::{AllocError, Global};
+
+/// The actions: per public rule its start's, then lookahead and lookbehind where they are used,
+/// and then those of the rules.
+pub fn actions(
+    alloc: Global,
+    names: &Names<'_>,
+    extents: &[Extent],
+    sources: &Sources,
+    frame: Frame,
+) -> Result<Items<ActionFnDefn>, AllocError>
+    requires counted { extents.now ≡ map extent_of (inline_sides names.now.plain.now) }
+    requires replaced { sources.now ≡ sources names.now.plain.now }
+    requires framed { frame ≡ frame_of names.now.plain.now }
+    ensures { IfOk result (λ a. map action_tree a ≡ actions_of names.now.plain.now) }
+{
+    let mut all = Items::new(alloc);
+    push_starts(alloc, names.plain, &mut all)?;
+    let ahead = LookaroundActionFn::Lookahead;
+    push_lookaround(alloc, names.plain, ahead, frame.uses_lookahead, &mut all)?;
+    let behind = LookaroundActionFn::Lookbehind;
+    push_lookaround(alloc, names.plain, behind, frame.uses_lookbehind, &mut all)?;
+    push_rules(alloc, names, extents, sources, frame.first, &mut all)?;
+    Ok(all)
+}
+
+/// Adds the actions of the starts.
+fn push_starts(
+    alloc: Global,
+    plain: &PlainGrammar,
+    all: &mut Items<ActionFnDefn>,
+) -> Result<(), AllocError>
+    ensures { OnOk result (map action_tree all.new ≡ map action_tree all.old ++ map (start_action plain.now) (filter (λ r. r.public) plain.now.rules)) }
+{
+    for rule in plain.rules.as_slice() {
+        if rule.public {
+            all.0.push(start_action(alloc, plain, rule)?)?;
+        }
+    }
+    Ok(())
+}
+
+/// The action of a start: its argument and its code are the prefix and `0`.
+fn start_action(
+    alloc: Global,
+    plain: &PlainGrammar,
+    rule: &PlainRule,
+) -> Result<ActionFnDefn, AllocError>
+    ensures { IfOk result (λ a. action_tree a ≡ start_action plain.now rule.now) }
+{
+    let name = prefixed(alloc, plain, "0")?;
+    let kind = ActionFnDefnKind::User {
+        arg_patterns: Items(vec![in alloc; name]?),
+        arg_types: Items(vec![in alloc; rule.ty.clone()?]?),
+        code: prefixed(alloc, plain, "0")?,
+    };
+    Ok(ActionFnDefn {
+        fallible: false,
+        ret_type: rule.ty.clone()?,
+        kind,
+    })
+}
+
+/// Adds the action of a lookaround where it is used.
+fn push_lookaround(
+    alloc: Global,
+    plain: &PlainGrammar,
+    which: LookaroundActionFn,
+    used: bool,
+    all: &mut Items<ActionFnDefn>,
+) -> Result<(), AllocError>
+    ensures { OnOk result (map action_tree all.new ≡ map action_tree all.old ++ lookaround_actions plain.now which used) }
+{
+    if used {
+        all.0.push(ActionFnDefn {
+            fallible: false,
+            ret_type: location_type(alloc, plain)?,
+            kind: ActionFnDefnKind::Lookaround(which),
+        })?;
+    }
+    Ok(())
+}
+
+/// Adds the actions of the rules, the first of which has this number.
+fn push_rules(
+    alloc: Global,
+    names: &Names<'_>,
+    extents: &[Extent],
+    sources: &Sources,
+    first: usize,
+    all: &mut Items<ActionFnDefn>,
+) -> Result<(), AllocError>
+    requires { extents.now ≡ map extent_of (inline_sides names.now.plain.now) }
+    ensures { OnOk result (map action_tree all.new ≡ map action_tree all.old ++ actions_from names.now.plain.now sources.now first names.now.plain.now.rules) }
+{
+    let mut next = first;
+    for rule in names.plain.rules.as_slice() {
+        push_rule(alloc, names, extents, sources, rule, next, all)?;
+        let count = actions_in(names, extents, rule.alternatives.as_slice())?;
+        next = sum(next, count)?;
+    }
+    Ok(())
+}
+
+/// Adds the actions of a rule, the first of which has this number.
+fn push_rule(
+    alloc: Global,
+    names: &Names<'_>,
+    extents: &[Extent],
+    sources: &Sources,
+    rule: &PlainRule,
+    first: usize,
+    all: &mut Items<ActionFnDefn>,
+) -> Result<(), AllocError>
+    requires { extents.now ≡ map extent_of (inline_sides names.now.plain.now) }
+    ensures { OnOk result (map action_tree all.new ≡ map action_tree all.old ++ rule_actions names.now.plain.now sources.now rule.now first rule.now.alternatives) }
+{
+    let mut user = first;
+    for alternative in rule.alternatives.as_slice() {
+        push_alternative(alloc, names, sources, rule, user, alternative, all)?;
+        let count = action_count(names, extents, alternative)?;
+        user = sum(user, count)?;
+    }
+    Ok(())
+}
+
+/// Adds the user action of an alternative, which has this number, and its inlines.
+fn push_alternative(
+    alloc: Global,
+    names: &Names<'_>,
+    sources: &Sources,
+    rule: &PlainRule,
+    user: usize,
+    alternative: &PlainAlternative,
+    all: &mut Items<ActionFnDefn>,
+) -> Result<(), AllocError>
+    ensures { OnOk result (map action_tree all.new ≡ map action_tree all.old ++ alternative_actions names.now.plain.now sources.now rule.now user alternative.now) }
+{
+    all.0.push(user_action(alloc, names, rule, alternative)?)?;
+    if is_replaced(names, alternative) {
+        let combinations = combined(alloc, names, sources, alternative)?;
+        push_inlines(rule, user, combinations, all)?;
+    }
+    Ok(())
+}
+
+/// The user action of an alternative.
+fn user_action(
+    alloc: Global,
+    names: &Names<'_>,
+    rule: &PlainRule,
+    alternative: &PlainAlternative,
+) -> Result<ActionFnDefn, AllocError>
+    ensures { IfOk result (λ a. action_tree a ≡ user_action names.now.plain.now rule.now alternative.now) }
+{
+    let kind = ActionFnDefnKind::User {
+        arg_patterns: argument_names(alloc, alternative)?,
+        arg_types: argument_types(alloc, names, alternative)?,
+        code: alternative.code.clone()?,
+    };
+    Ok(ActionFnDefn {
+        fallible: alternative.fallible,
+        ret_type: rule.ty.clone()?,
+        kind,
+    })
+}
+
+/// The names that the symbols of an alternative are bound to.
+fn argument_names(
+    alloc: Global,
+    alternative: &PlainAlternative,
+) -> Result<Items<Text>, AllocError>
+    ensures { IfOk result (λ t. t ≡ map (λ s. s.name) alternative.now.symbols) }
+{
+    let mut names = Items::new(alloc);
+    for symbol in alternative.symbols.as_slice() {
+        names.0.push(symbol.name.clone()?)?;
+    }
+    Ok(names)
+}
+
+/// The types of the symbols of an alternative.
+fn argument_types(
+    alloc: Global,
+    names: &Names<'_>,
+    alternative: &PlainAlternative,
+) -> Result<Items<TypeRepr>, AllocError>
+    ensures { IfOk result (λ t. map type_tree t ≡ map (λ s. target_tree names.now.plain.now (target names.now.plain.now s.kind)) alternative.now.symbols) }
+{
+    let mut types = Items::new(alloc);
+    for symbol in alternative.symbols.as_slice() {
+        let target = names.target(&symbol.kind);
+        types.0.push(target_type(alloc, names, target)?)?;
+    }
+    Ok(types)
+}
+
+/// Adds an inline per combination, over the user action of this number.
+fn push_inlines(
+    rule: &PlainRule,
+    user: usize,
+    combinations: Vec<Combination>,
+    all: &mut Items<ActionFnDefn>,
+) -> Result<(), AllocError>
+    ensures { OnOk result (map action_tree all.new ≡ map action_tree all.old ++ map (inline_action rule.now user) combinations.items) }
+{
+    for combination in combinations {
+        all.0.push(inline_action(rule, user, combination)?)?;
+    }
+    Ok(())
+}
+
+/// The inline of a combination, over the user action of this number.
+fn inline_action(
+    rule: &PlainRule,
+    user: usize,
+    combination: Combination,
+) -> Result<ActionFnDefn, AllocError>
+    ensures { IfOk result (λ a. action_tree a ≡ inline_action rule.now user combination) }
+{
+    let Combination {
+        inlined,
+        fallible,
+        symbols: _,
+    } = combination;
+    Ok(ActionFnDefn {
+        fallible,
+        ret_type: rule.ty.clone()?,
+        kind: ActionFnDefnKind::Inline {
+            action: user,
+            symbols: inlined,
+        },
+    })
+}

@@ -1,0 +1,176 @@
+//! The nonterminals of the lowered grammar, with their productions.
+
+ghost use Rattle.std.specs.Prelude.{◌≡◌, IfOk, OnOk, [], map};
+ghost use Rattle.lp_repr.specs.NameOrder.{nonterminal_cmp};
+ghost use Rattle.lp_lower.specs.Expansion.{sources};
+ghost use Rattle.lp_lower.specs.Extents.{extent_of};
+ghost use Rattle.lp_lower.specs.Framing.{frame_of};
+ghost use Rattle.lp_lower.specs.Productions.{put_all, start_name, visibility_of, start_data, start_entries, production_of, rule_data, rule_entries, nonterminal_entries};
+ghost use Rattle.lp_lower.specs.RightSides.{inline_sides};
+
+use crate::combine::Expanded;
+use crate::expand::{Sources, actions_in, expanded_all};
+use crate::extents::Extent;
+use crate::frame::{Frame, sum};
+use crate::names::Names;
+use crate::plain::{PlainGrammar, PlainRule};
+use crate::types::prefixed;
+use lp_repr::parse_tree::Visibility;
+use lp_repr::repr::{NonterminalData, NonterminalString, Production, Symbol};
+use lp_repr::text::Items;
+use std::alloc::{AllocError, Global};
+use std::collections::BTreeMap;
+
+/// The starts, and the rules that are not inline.
+pub fn nonterminals(
+    alloc: Global,
+    names: &Names<'_>,
+    extents: &[Extent],
+    sources: &Sources,
+    frame: Frame,
+) -> Result<BTreeMap<NonterminalString, NonterminalData>, AllocError>
+    requires counted { extents.now ≡ map extent_of (inline_sides names.now.plain.now) }
+    requires replaced { sources.now ≡ sources names.now.plain.now }
+    requires framed { frame ≡ frame_of names.now.plain.now }
+    ensures { IfOk result (λ m. m.entries ≡ put_all nonterminal_cmp [] (nonterminal_entries names.now.plain.now)) }
+{
+    let mut all = BTreeMap::new(alloc);
+    put_starts(alloc, names.plain, &mut all)?;
+    put_rules(alloc, names, extents, sources, frame.first, &mut all)?;
+    Ok(all)
+}
+
+/// Puts the starts of the public rules.
+fn put_starts(
+    alloc: Global,
+    plain: &PlainGrammar,
+    all: &mut BTreeMap<NonterminalString, NonterminalData>,
+) -> Result<(), AllocError>
+    ensures { OnOk result (all.new.entries ≡ put_all nonterminal_cmp all.old.entries (start_entries plain.now 0 plain.now.rules)) }
+{
+    let mut action: usize = 0;
+    for rule in plain.rules.as_slice() {
+        if rule.public {
+            let name = start_name(alloc, plain, rule)?;
+            all.insert(name, start_data(alloc, plain, action, rule)?)?;
+            action = sum(action, 1)?;
+        }
+    }
+    Ok(())
+}
+
+/// The name of a start: the prefix and the rule's name.
+pub fn start_name(
+    alloc: Global,
+    plain: &PlainGrammar,
+    rule: &PlainRule,
+) -> Result<NonterminalString, AllocError>
+    ensures { IfOk result (λ n. n ≡ start_name plain.now rule.now) }
+{
+    Ok(NonterminalString(prefixed(alloc, plain, rule.name.0.as_str())?))
+}
+
+/// A start, whose action has this number.
+fn start_data(
+    alloc: Global,
+    plain: &PlainGrammar,
+    action: usize,
+    rule: &PlainRule,
+) -> Result<NonterminalData, AllocError>
+    ensures { IfOk result (λ d. d ≡ start_data plain.now action rule.now) }
+{
+    let production = Production {
+        nonterminal: start_name(alloc, plain, rule)?,
+        symbols: Items(vec![in alloc; Symbol::Nonterminal(rule.name.clone()?)]?),
+        action,
+    };
+    Ok(NonterminalData {
+        visibility: visibility_of(rule),
+        productions: Items(vec![in alloc; production]?),
+    })
+}
+
+fn visibility_of(rule: &PlainRule) -> Visibility
+    ensures { result ≡ visibility_of rule.now }
+{
+    if rule.public {
+        Visibility::Pub(None)
+    } else {
+        Visibility::Priv
+    }
+}
+
+/// Puts the rules that are not inline. The actions of the first rule begin with this number.
+fn put_rules(
+    alloc: Global,
+    names: &Names<'_>,
+    extents: &[Extent],
+    sources: &Sources,
+    first: usize,
+    all: &mut BTreeMap<NonterminalString, NonterminalData>,
+) -> Result<(), AllocError>
+    requires { extents.now ≡ map extent_of (inline_sides names.now.plain.now) }
+    ensures { OnOk result (all.new.entries ≡ put_all nonterminal_cmp all.old.entries (rule_entries names.now.plain.now sources.now first names.now.plain.now.rules)) }
+{
+    let mut next = first;
+    for rule in names.plain.rules.as_slice() {
+        if !rule.inline {
+            let data = rule_data(alloc, names, extents, sources, next, rule)?;
+            all.insert(rule.name.clone()?, data)?;
+        }
+        let count = actions_in(names, extents, rule.alternatives.as_slice())?;
+        next = sum(next, count)?;
+    }
+    Ok(())
+}
+
+/// A rule, whose actions begin with this number.
+fn rule_data(
+    alloc: Global,
+    names: &Names<'_>,
+    extents: &[Extent],
+    sources: &Sources,
+    first: usize,
+    rule: &PlainRule,
+) -> Result<NonterminalData, AllocError>
+    requires { extents.now ≡ map extent_of (inline_sides names.now.plain.now) }
+    ensures { IfOk result (λ d. d ≡ rule_data names.now.plain.now sources.now first rule.now) }
+{
+    let alternatives = rule.alternatives.as_slice();
+    let expanded = expanded_all(alloc, names, extents, sources, first, alternatives)?;
+    Ok(NonterminalData {
+        visibility: visibility_of(rule),
+        productions: productions(alloc, &rule.name, expanded)?,
+    })
+}
+
+/// The productions of expanded alternatives.
+fn productions(
+    alloc: Global,
+    name: &NonterminalString,
+    expanded: Items<Expanded>,
+) -> Result<Items<Production>, AllocError>
+    ensures { IfOk result (λ p. p ≡ map (production_of name.now) expanded) }
+{
+    let Items(expanded) = expanded;
+    let mut productions = Items::new(alloc);
+    for one in expanded {
+        productions.0.push(production_of(name, one)?)?;
+    }
+    Ok(productions)
+}
+
+fn production_of(name: &NonterminalString, expanded: Expanded) -> Result<Production, AllocError>
+    ensures { IfOk result (λ p. p ≡ production_of name.now expanded) }
+{
+    let Expanded {
+        action,
+        fallible: _,
+        symbols,
+    } = expanded;
+    Ok(Production {
+        nonterminal: name.clone()?,
+        symbols,
+        action,
+    })
+}
