@@ -1,5 +1,5 @@
 -- Combinations by their number: the digits choose, the first slowest.
-use Rattle.std.proofs.Common.{◌≡◌, ℕ, ◌+◌, ◌-◌, ◌*◌, ◌/◌, ◌%◌, ◌^◌, ◌<◌, ◌≤◌, zero, suc, min, Bool, ◌||◌, List, [], ◌∷◌, ◌++◌, length, map, take, drop, Option, None, Some, refl, sym, ap, ◌∙◌, arith, append_assoc, append-nil, length-append, ⊎_elim}
+use Rattle.std.proofs.Common.{◌≡◌, ℕ, ◌+◌, ◌-◌, ◌*◌, ◌/◌, ◌%◌, ◌^◌, ◌<◌, ◌≤◌, zero, suc, min, Bool, true, false, ◌||◌, List, [], ◌∷◌, ◌++◌, length, map, take, drop, Option, None, Some, refl, sym, ap, ◌∙◌, arith, append_assoc, append-nil, length-append, ⊎_elim}
 use Rattle.std.proofs.Math.ListN.{get_or}
 use Rattle.std.proofs.Math.Nat.{mul-le-mul, mul-zero, zero-mul, mul-div_cancel_left}
 use Rattle.std.specs.List.{slice_get, flat_map, list_any}
@@ -150,6 +150,19 @@ so_far_more fallible xss place i count left c o h at was m next q r d size count
           was.completed (x ∷ rest) (ap (λ l. slice_get (choices l) left) e ∙ (ap (slice_get (choices (o ∷ drop (i + 1) xss))) whole ∙ choice_at o later q r x rest found.1 g))
           ∙ ap (λ l. Some l) (sym (append_assoc was.pieces (x ∷ []) rest));
     }
+
+-- so there are digits at the next part
+pub so_far_digits : (fallible : Bool) (xss : List (List Piece)) (place i count left : ℕ) (c : Combination) (o : List Piece) → i < length xss → get_or xss i o ≡ o → IsSoFar fallible xss place i count left c → Digits (length o) (length (choices (drop (i + 1) xss))) count left
+so_far_digits fallible xss place i count left c o h at was = digits (length o) (length (choices (drop (i + 1) xss))) count left (was.counted ∙ choices_from xss i o h at) was.within
+
+or_nothing : (b : Bool) → (b || false) ≡ b
+or_nothing true = refl
+or_nothing false = refl
+
+-- no pieces
+pub none_of : (fallible : Bool) (inlined : List InlinedSymbol) (symbols : List Symbol) → inlined ≡ [] → symbols ≡ [] → combination inlined fallible symbols ≡ combination_of fallible []
+unfolding combination_of
+none_of fallible inlined symbols e f = ap (λ i. combination i fallible symbols) e ∙ (ap (combination [] fallible) f ∙ ap (λ b. combination [] b []) (sym (or_nothing fallible)))
 
 -- before the first part
 pub so_far_none : (fallible : Bool) (xss : List (List Piece)) (place total : ℕ) (c : Combination) → c ≡ combination_of fallible [] → total ≡ length (choices xss) → place < total → IsSoFar fallible xss place 0 total place c

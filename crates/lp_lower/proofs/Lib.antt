@@ -1,6 +1,8 @@
 pub mod Combining
-pub mod Extents
+pub mod Copies
+pub mod Counting
 pub mod FirstNumbers
+pub mod Holes
 pub mod Leasts
 pub mod OrderSteps
 pub mod Putting

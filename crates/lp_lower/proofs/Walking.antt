@@ -40,3 +40,7 @@ put_filtered cmp f p xs i x h at b passes old new whole is was =
 pub put_mapped : {A K X : Type 0} (cmp : K → K → Ordering) (f : A → K × X) (xs : List A) (i : ℕ) (x : A) → i < length xs → get_or xs i x ≡ x → (old new whole : List (K × X)) → new ≡ insert_entry cmp old (f x).0 (f x).1 → put_all cmp old (map f (drop i xs)) ≡ whole → put_all cmp new (map f (drop (i + 1) xs)) ≡ whole
 put_mapped cmp f xs i x h at old new whole is was =
     ap (λ l. put_all cmp l (map f (drop (i + 1) xs))) is ∙ (ap (λ l. put_all cmp old (map f l)) (sym (next_drop xs i x h at)) ∙ was)
+
+-- what four steps append
+pub in_a_row : {X : Type 0} (m1 m2 m3 m4 s l k r : List X) → m1 ≡ s → m2 ≡ m1 ++ l → m3 ≡ m2 ++ k → m4 ≡ m3 ++ r → m4 ≡ s ++ (l ++ (k ++ r))
+in_a_row m1 m2 m3 m4 s l k r a b c d = d ∙ (ap (λ x. x ++ r) (c ∙ ap (λ x. x ++ k) (b ∙ ap (λ x. x ++ l) a)) ∙ (append_assoc (s ++ l) k r ∙ append_assoc s l (k ++ r)))

@@ -8,7 +8,7 @@ use Rattle.lp_repr.specs.declared.repr.InlinedSymbol.{InlinedSymbol}
 use Rattle.lp_repr.specs.declared.repr.LookaroundActionFn.{LookaroundActionFn}
 use Rattle.lp_repr.specs.declared.repr.LookaroundActionFn.TheVariants.{Lookahead, Lookbehind}
 use Rattle.lp_lower.specs.ActionNumbers.{uses_lookahead, uses_lookbehind, first_action, is_replaced, action_count, actions_in}
-use Rattle.lp_lower.specs.Expansion.{combined, sources}
+use Rattle.lp_lower.specs.Expansion.{all_sources, combined}
 use Rattle.lp_lower.specs.Naming.{target}
 use Rattle.lp_lower.specs.TypeOf.{location_tree, target_tree}
 use Rattle.lp_lower.specs.declared.combine.Combination.{Combination}
@@ -41,9 +41,13 @@ action_tree a = record { fallible = a.fallible; gives = type_tree a.ret_type; do
 abbrev pub start_action : PlainGrammar → PlainRule → ActionTree
 start_action g r = record { fallible = false; gives = type_tree r.ty; does = user_code ((g.prefix ++ codes "0") ∷ []) (type_tree r.ty ∷ []) (g.prefix ++ codes "0") }
 
--- a lookaround, where it is used
+-- a lookaround
+abbrev pub lookaround_action : PlainGrammar → LookaroundActionFn → ActionTree
+lookaround_action g which = record { fallible = false; gives = location_tree g; does = lookaround which }
+
+-- where it is used
 abbrev pub lookaround_actions : PlainGrammar → LookaroundActionFn → Bool → List ActionTree
-lookaround_actions g which used = (if used then record { fallible = false; gives = location_tree g; does = lookaround which } ∷ [] else [])
+lookaround_actions g which used = (if used then lookaround_action g which ∷ [] else [])
 
 -- the user action of an alternative
 abbrev pub user_action : PlainGrammar → PlainRule → PlainAlternative → ActionTree
@@ -69,4 +73,4 @@ actions_from g s first (r ∷ rs) = rule_actions g s r first r.alternatives ++ a
 
 -- the actions in their order: per public rule the start's, then lookahead and lookbehind where they are used, then the rules'
 abbrev pub actions_of : PlainGrammar → List ActionTree
-actions_of g = map (start_action g) (filter (λ r. r.public) g.rules) ++ (lookaround_actions g Lookahead (uses_lookahead g) ++ (lookaround_actions g Lookbehind (uses_lookbehind g) ++ actions_from g (sources g) (first_action g) g.rules))
+actions_of g = map (start_action g) (filter (λ r. r.public) g.rules) ++ (lookaround_actions g Lookahead (uses_lookahead g) ++ (lookaround_actions g Lookbehind (uses_lookbehind g) ++ actions_from g (all_sources g) (first_action g) g.rules))

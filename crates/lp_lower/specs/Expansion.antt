@@ -65,5 +65,5 @@ inlines_after g above first [] = above
 inlines_after g above first (r ∷ rs) = inlines_after g (above ++ (if r.inline then expanded_all g (sources_of g above) first r.alternatives else []) ∷ []) (first + actions_in g r.alternatives) rs
 
 -- what is replaced, and by what
-abbrev pub sources : PlainGrammar → Sources
-sources g = sources_of g (inlines_after g [] (first_action g) g.rules)
+abbrev pub all_sources : PlainGrammar → Sources
+all_sources g = sources_of g (inlines_after g [] (first_action g) g.rules)

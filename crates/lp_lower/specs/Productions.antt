@@ -9,7 +9,7 @@ use Rattle.lp_repr.specs.declared.repr.NonterminalString.{NonterminalString}
 use Rattle.lp_repr.specs.declared.repr.Production.{Production}
 use Rattle.lp_repr.specs.declared.repr.Symbol.TheVariants.{Nonterminal}
 use Rattle.lp_lower.specs.ActionNumbers.{first_action, actions_in}
-use Rattle.lp_lower.specs.Expansion.{sources, expanded_all}
+use Rattle.lp_lower.specs.Expansion.{all_sources, expanded_all}
 use Rattle.lp_lower.specs.declared.combine.Expanded.{Expanded}
 use Rattle.lp_lower.specs.declared.expand.Sources.{Sources}
 use Rattle.lp_lower.specs.declared.plain.PlainGrammar.{PlainGrammar}
@@ -31,10 +31,14 @@ visibility_of r = (if r.public then Pub None else Priv)
 abbrev pub start_data : PlainGrammar → ℕ → PlainRule → NonterminalData
 start_data g action r = record { visibility = visibility_of r; productions = record { nonterminal = start_name g r; symbols = Nonterminal r.name ∷ []; action = action } ∷ [] }
 
+-- the start of a public rule, whose action has this number
+abbrev pub start_entry : PlainGrammar → ℕ → PlainRule → List (NonterminalString × NonterminalData)
+start_entry g action r = (if r.public then (start_name g r, start_data g action r) ∷ [] else [])
+
 -- the starts of the public rules among these, the first of which has this action
 abbrev pub start_entries : PlainGrammar → ℕ → List PlainRule → List (NonterminalString × NonterminalData)
 start_entries g action [] = []
-start_entries g action (r ∷ rs) = (if r.public then (start_name g r, start_data g action r) ∷ [] else []) ++ start_entries g (action + (if r.public then 1 else 0)) rs
+start_entries g action (r ∷ rs) = start_entry g action r ++ start_entries g (action + (if r.public then 1 else 0)) rs
 
 -- the production of an expanded alternative
 abbrev pub production_of : NonterminalString → Expanded → Production
@@ -44,11 +48,15 @@ production_of name e = record { nonterminal = name; symbols = e.symbols; action 
 abbrev pub rule_data : PlainGrammar → Sources → ℕ → PlainRule → NonterminalData
 rule_data g s first r = record { visibility = visibility_of r; productions = map (production_of r.name) (expanded_all g s first r.alternatives) }
 
--- those of these rules that are not inline
+-- a rule that is not inline
+abbrev pub rule_entry : PlainGrammar → Sources → ℕ → PlainRule → List (NonterminalString × NonterminalData)
+rule_entry g s first r = (if r.inline then [] else (r.name, rule_data g s first r) ∷ [])
+
+-- those of these rules
 abbrev pub rule_entries : PlainGrammar → Sources → ℕ → List PlainRule → List (NonterminalString × NonterminalData)
 rule_entries g s first [] = []
-rule_entries g s first (r ∷ rs) = (if r.inline then [] else (r.name, rule_data g s first r) ∷ []) ++ rule_entries g s (first + actions_in g r.alternatives) rs
+rule_entries g s first (r ∷ rs) = rule_entry g s first r ++ rule_entries g s (first + actions_in g r.alternatives) rs
 
 -- the starts, and then the rules that are not inline
 abbrev pub nonterminal_entries : PlainGrammar → List (NonterminalString × NonterminalData)
-nonterminal_entries g = start_entries g 0 g.rules ++ rule_entries g (sources g) (first_action g) g.rules
+nonterminal_entries g = start_entries g 0 g.rules ++ rule_entries g (all_sources g) (first_action g) g.rules

@@ -2,8 +2,8 @@
 
 ghost use Rattle.std.specs.Prelude.{◌≡◌, ◌++◌, IfOk, OnOk, map, filter};
 ghost use Rattle.lp_repr.specs.TypeTrees.{type_tree};
-ghost use Rattle.lp_lower.specs.Actions.{action_tree, start_action, lookaround_actions, user_action, inline_action, alternative_actions, rule_actions, actions_from, actions_of};
-ghost use Rattle.lp_lower.specs.Expansion.{sources};
+ghost use Rattle.lp_lower.specs.Actions.{action_tree, start_action, lookaround_action, lookaround_actions, user_action, inline_action, alternative_actions, rule_actions, actions_from, actions_of};
+ghost use Rattle.lp_lower.specs.Expansion.{all_sources};
 ghost use Rattle.lp_lower.specs.Extents.{extent_of};
 ghost use Rattle.lp_lower.specs.Framing.{frame_of};
 ghost use Rattle.lp_lower.specs.Naming.{target};
@@ -14,6 +14,7 @@ use crate::combine::Combination;
 use crate::expand::{Sources, action_count, actions_in, combined, is_replaced};
 use crate::extents::Extent;
 use crate::frame::{Frame, sum};
+use crate::lists::{empty, push};
 use crate::names::Names;
 use crate::plain::{PlainAlternative, PlainGrammar, PlainRule};
 use crate::types::{location_type, prefixed, target_type};
@@ -31,11 +32,11 @@ pub fn actions(
     frame: Frame,
 ) -> Result<Items<ActionFnDefn>, AllocError>
     requires counted { extents.now ≡ map extent_of (inline_sides names.now.plain.now) }
-    requires replaced { sources.now ≡ sources names.now.plain.now }
+    requires replaced { sources.now ≡ all_sources names.now.plain.now }
     requires framed { frame ≡ frame_of names.now.plain.now }
     ensures { IfOk result (λ a. map action_tree a ≡ actions_of names.now.plain.now) }
 {
-    let mut all = Items::new(alloc);
+    let mut all = empty(alloc);
     push_starts(alloc, names.plain, &mut all)?;
     let ahead = LookaroundActionFn::Lookahead;
     push_lookaround(alloc, names.plain, ahead, frame.uses_lookahead, &mut all)?;
@@ -55,7 +56,7 @@ fn push_starts(
 {
     for rule in plain.rules.as_slice() {
         if rule.public {
-            all.0.push(start_action(alloc, plain, rule)?)?;
+            push(all, start_action(alloc, plain, rule)?)?;
         }
     }
     Ok(())
@@ -93,13 +94,24 @@ fn push_lookaround(
     ensures { OnOk result (map action_tree all.new ≡ map action_tree all.old ++ lookaround_actions plain.now which used) }
 {
     if used {
-        all.0.push(ActionFnDefn {
-            fallible: false,
-            ret_type: location_type(alloc, plain)?,
-            kind: ActionFnDefnKind::Lookaround(which),
-        })?;
+        push(all, lookaround_action(alloc, plain, which)?)?;
     }
     Ok(())
+}
+
+/// The action of a lookaround.
+fn lookaround_action(
+    alloc: Global,
+    plain: &PlainGrammar,
+    which: LookaroundActionFn,
+) -> Result<ActionFnDefn, AllocError>
+    ensures { IfOk result (λ a. action_tree a ≡ lookaround_action plain.now which) }
+{
+    Ok(ActionFnDefn {
+        fallible: false,
+        ret_type: location_type(alloc, plain)?,
+        kind: ActionFnDefnKind::Lookaround(which),
+    })
 }
 
 /// Adds the actions of the rules, the first of which has this number.
@@ -157,7 +169,7 @@ fn push_alternative(
 ) -> Result<(), AllocError>
     ensures { OnOk result (map action_tree all.new ≡ map action_tree all.old ++ alternative_actions names.now.plain.now sources.now rule.now user alternative.now) }
 {
-    all.0.push(user_action(alloc, names, rule, alternative)?)?;
+    push(all, user_action(alloc, names, rule, alternative)?)?;
     if is_replaced(names, alternative) {
         let combinations = combined(alloc, names, sources, alternative)?;
         push_inlines(rule, user, combinations, all)?;
@@ -193,9 +205,9 @@ fn argument_names(
 ) -> Result<Items<Text>, AllocError>
     ensures { IfOk result (λ t. t ≡ map (λ s. s.name) alternative.now.symbols) }
 {
-    let mut names = Items::new(alloc);
+    let mut names = empty(alloc);
     for symbol in alternative.symbols.as_slice() {
-        names.0.push(symbol.name.clone()?)?;
+        push(&mut names, symbol.name.clone()?)?;
     }
     Ok(names)
 }
@@ -208,10 +220,10 @@ fn argument_types(
 ) -> Result<Items<TypeRepr>, AllocError>
     ensures { IfOk result (λ t. map type_tree t ≡ map (λ s. target_tree names.now.plain.now (target names.now.plain.now s.kind)) alternative.now.symbols) }
 {
-    let mut types = Items::new(alloc);
+    let mut types = empty(alloc);
     for symbol in alternative.symbols.as_slice() {
         let target = names.target(&symbol.kind);
-        types.0.push(target_type(alloc, names, target)?)?;
+        push(&mut types, target_type(alloc, names, target)?)?;
     }
     Ok(types)
 }
@@ -226,7 +238,7 @@ fn push_inlines(
     ensures { OnOk result (map action_tree all.new ≡ map action_tree all.old ++ map (inline_action rule.now user) combinations.items) }
 {
     for combination in combinations {
-        all.0.push(inline_action(rule, user, combination)?)?;
+        push(all, inline_action(rule, user, combination)?)?;
     }
     Ok(())
 }

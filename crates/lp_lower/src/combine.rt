@@ -6,6 +6,7 @@ ghost use Rattle.lp_lower.specs.Choices.{choices};
 ghost use Rattle.lp_lower.specs.Extents.{capped};
 ghost use Rattle.lp_lower.specs.Pieces.{Piece, itself, chosen, pieces_of, combination_of, with_piece};
 
+use crate::lists::{empty, push};
 use lp_repr::repr::{InlinedSymbol, Symbol};
 use lp_repr::text::Items;
 use std::alloc::{AllocError, Global};
@@ -94,9 +95,9 @@ fn combination_at(
     ensures { IfOk result (λ c. slice_get (map (combination_of fallible) (choices (map pieces_of parts.now))) place ≡ Some c) }
 {
     let mut combination = Combination {
-        inlined: Items::new(alloc),
+        inlined: empty(alloc),
         fallible,
-        symbols: Items::new(alloc),
+        symbols: empty(alloc),
     };
     let mut count = total;
     let mut left = place;
@@ -136,11 +137,8 @@ impl Combination {
     fn add_symbol(&mut self, symbol: &Symbol) -> Result<(), AllocError>
         ensures { OnOk result (self.new ≡ with_piece self.old (itself symbol.now)) }
     {
-        self.inlined
-            .0
-            .push(InlinedSymbol::Original(symbol.clone()?))?;
-        self.symbols.0.push(symbol.clone()?)?;
-        Ok(())
+        push(&mut self.inlined, InlinedSymbol::Original(symbol.clone()?))?;
+        push(&mut self.symbols, symbol.clone()?)
     }
 
     /// Adds an expanded alternative.
@@ -148,9 +146,8 @@ impl Combination {
         ensures { OnOk result (self.new ≡ with_piece self.old (chosen expanded.now)) }
     {
         let symbols = expanded.symbols.clone()?;
-        self.inlined
-            .0
-            .push(InlinedSymbol::Inlined(expanded.action, symbols))?;
+        let inlined = InlinedSymbol::Inlined(expanded.action, symbols);
+        push(&mut self.inlined, inlined)?;
         self.fallible = self.fallible || expanded.fallible;
         push_symbols(expanded.symbols.as_slice(), &mut self.symbols)
     }
@@ -161,7 +158,7 @@ fn push_symbols(symbols: &[Symbol], all: &mut Items<Symbol>) -> Result<(), Alloc
     ensures { OnOk result (all.new ≡ all.old ++ symbols.now) }
 {
     for symbol in symbols {
-        all.0.push(symbol.clone()?)?;
+        push(all, symbol.clone()?)?;
     }
     Ok(())
 }

@@ -2,7 +2,7 @@
 
 ghost use Rattle.std.specs.Prelude.{◌≡◌, ◌++◌, if◌then◌else◌, IfOk, OnOk, Some, [], ◌∷◌, length, map, slice_index_or};
 ghost use Rattle.lp_lower.specs.ActionNumbers.{action_count, actions_in, is_replaced, is_replaced_target};
-ghost use Rattle.lp_lower.specs.Expansion.{combined, expanded, expanded_all, expanded_from, lookaround, options, rule_pieces, sources, terminal_pieces};
+ghost use Rattle.lp_lower.specs.Expansion.{all_sources, combined, expanded, expanded_all, expanded_from, lookaround, options, rule_pieces, terminal_pieces};
 ghost use Rattle.lp_lower.specs.Extents.{extent_of};
 ghost use Rattle.lp_lower.specs.Framing.{frame_of};
 ghost use Rattle.lp_lower.specs.Naming.{target};
@@ -13,6 +13,7 @@ ghost use Rattle.lp_lower.specs.declared.names.Target.TheVariants.{Rule};
 use crate::combine::{Combination, Expanded, Part, combinations};
 use crate::extents::{Extent, alternative_extent};
 use crate::frame::{Frame, sum};
+use crate::lists::{empty, push};
 use crate::names::{Names, Target};
 use crate::plain::{PlainAlternative, PlainKind, PlainRule};
 use crate::refusals::is_inline;
@@ -237,11 +238,12 @@ fn push_numbered(
             fallible,
             symbols,
         } = combination;
-        all.0.push(Expanded {
+        let expanded = Expanded {
             action,
             fallible,
             symbols,
-        })?;
+        };
+        push(all, expanded)?;
         action = sum(action, 1)?;
     }
     Ok(())
@@ -259,7 +261,7 @@ pub fn expanded_all(
     requires { extents.now ≡ map extent_of (inline_sides names.now.plain.now) }
     ensures { IfOk result (λ e. e ≡ expanded_all names.now.plain.now sources.now first alternatives.now) }
 {
-    let mut all = Items::new(alloc);
+    let mut all = empty(alloc);
     let mut user = first;
     for alternative in alternatives {
         push_expanded(alloc, names, sources, user, alternative, &mut all)?;
@@ -279,17 +281,17 @@ pub fn make_sources(
 ) -> Result<Sources, AllocError>
     requires counted { extents.now ≡ map extent_of (inline_sides names.now.plain.now) }
     requires framed { frame ≡ frame_of names.now.plain.now }
-    ensures { IfOk result (λ s. s ≡ sources names.now.plain.now) }
+    ensures { IfOk result (λ s. s ≡ all_sources names.now.plain.now) }
 {
     let mut sources = Sources {
         lookahead: lookaround(alloc, frame.lookahead)?,
         lookbehind: lookaround(alloc, frame.lookbehind)?,
-        inlines: Items::new(alloc),
+        inlines: empty(alloc),
     };
     let mut first = frame.first;
     for rule in names.plain.rules.as_slice() {
         let expanded = inline_expanded(alloc, names, extents, &sources, first, rule)?;
-        sources.inlines.0.push(expanded)?;
+        push(&mut sources.inlines, expanded)?;
         let count = actions_in(names, extents, rule.alternatives.as_slice())?;
         first = sum(first, count)?;
     }
@@ -300,12 +302,13 @@ pub fn make_sources(
 fn lookaround(alloc: Global, action: usize) -> Result<Items<Expanded>, AllocError>
     ensures { IfOk result (λ e. e ≡ lookaround action ∷ []) }
 {
-    let mut one = Items::new(alloc);
-    one.0.push(Expanded {
+    let mut one = empty(alloc);
+    let expanded = Expanded {
         action,
         fallible: false,
-        symbols: Items::new(alloc),
-    })?;
+        symbols: empty(alloc),
+    };
+    push(&mut one, expanded)?;
     Ok(one)
 }
 
@@ -332,6 +335,6 @@ fn inline_expanded(
             rule.alternatives.as_slice(),
         )
     } else {
-        Ok(Items::new(alloc))
+        Ok(empty(alloc))
     }
 }

@@ -50,7 +50,7 @@ pub fn sum(first: usize, second: usize) -> Result<usize, AllocError>
 }
 
 /// The number after this one where an action stands there.
-fn after(number: usize, used: bool) -> Result<usize, AllocError>
+pub fn after(number: usize, used: bool) -> Result<usize, AllocError>
     ensures { IfOk result (λ n. n ≡ number + (if used then 1 else 0)) }
 {
     if used { sum(number, 1) } else { Ok(number) }

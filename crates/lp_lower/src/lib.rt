@@ -6,6 +6,7 @@ mod combine;
 mod expand;
 mod extents;
 mod frame;
+mod lists;
 mod lowering;
 mod names;
 mod plain;

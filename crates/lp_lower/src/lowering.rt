@@ -4,7 +4,7 @@ ghost use Rattle.std.specs.Prelude.{◌≡◌, IfErr, IfOk, OnOk, map};
 ghost use Rattle.lp_repr.specs.TypeTrees.{clause_tree};
 ghost use Rattle.lp_lower.specs.ActionNumbers.{uses_error};
 ghost use Rattle.lp_lower.specs.Causes.{IsAccepted, IsCause};
-ghost use Rattle.lp_lower.specs.Expansion.{sources};
+ghost use Rattle.lp_lower.specs.Expansion.{all_sources};
 ghost use Rattle.lp_lower.specs.Extents.{extent_of};
 ghost use Rattle.lp_lower.specs.Framing.{frame_of};
 ghost use Rattle.lp_lower.specs.Lowering.{IsLowering, IsTyping, parameter_tree};
@@ -104,7 +104,7 @@ fn assembled(
 ) -> Result<Grammar, AllocError>
     requires counted { extents.now ≡ map extent_of (inline_sides names.now.plain.now) }
     requires framed { frame ≡ frame_of names.now.plain.now }
-    requires replaced { sources.now ≡ sources names.now.plain.now }
+    requires replaced { sources.now ≡ all_sources names.now.plain.now }
     ensures { IfOk result (IsLowering names.now.plain.now) }
 {
     let plain = names.plain;
@@ -143,15 +143,15 @@ fn copy_clauses(clauses: &Items<WhereClause>) -> Result<Items<WhereClause>, Allo
 }
 
 /// The types of a grammar.
-fn types(alloc: Global, plain: &PlainGrammar, uses_error: bool) -> Result<Types, AllocError>
-    requires { uses_error ≡ uses_error plain.now }
+fn types(alloc: Global, plain: &PlainGrammar, with_error: bool) -> Result<Types, AllocError>
+    requires { with_error ≡ uses_error plain.now }
     ensures { IfOk result (IsTyping plain.now) }
 {
     Ok(Types {
         loc: given(&plain.location)?,
         token: plain.token.clone()?,
         error: given(&plain.error)?,
-        terminals: terminal_types(alloc, plain, uses_error)?,
+        terminals: terminal_types(alloc, plain, with_error)?,
         nonterminals: nonterminal_types(alloc, plain)?,
     })
 }

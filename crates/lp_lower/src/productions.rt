@@ -2,16 +2,17 @@
 
 ghost use Rattle.std.specs.Prelude.{◌≡◌, IfOk, OnOk, [], map};
 ghost use Rattle.lp_repr.specs.NameOrder.{nonterminal_cmp};
-ghost use Rattle.lp_lower.specs.Expansion.{sources};
+ghost use Rattle.lp_lower.specs.Expansion.{all_sources};
 ghost use Rattle.lp_lower.specs.Extents.{extent_of};
 ghost use Rattle.lp_lower.specs.Framing.{frame_of};
-ghost use Rattle.lp_lower.specs.Productions.{put_all, start_name, visibility_of, start_data, start_entries, production_of, rule_data, rule_entries, nonterminal_entries};
+ghost use Rattle.lp_lower.specs.Productions.{put_all, start_name, visibility_of, start_data, start_entry, start_entries, production_of, rule_data, rule_entry, rule_entries, nonterminal_entries};
 ghost use Rattle.lp_lower.specs.RightSides.{inline_sides};
 
 use crate::combine::Expanded;
 use crate::expand::{Sources, actions_in, expanded_all};
 use crate::extents::Extent;
-use crate::frame::{Frame, sum};
+use crate::frame::{Frame, after, sum};
+use crate::lists::{empty, push};
 use crate::names::Names;
 use crate::plain::{PlainGrammar, PlainRule};
 use crate::types::prefixed;
@@ -30,7 +31,7 @@ pub fn nonterminals(
     frame: Frame,
 ) -> Result<BTreeMap<NonterminalString, NonterminalData>, AllocError>
     requires counted { extents.now ≡ map extent_of (inline_sides names.now.plain.now) }
-    requires replaced { sources.now ≡ sources names.now.plain.now }
+    requires replaced { sources.now ≡ all_sources names.now.plain.now }
     requires framed { frame ≡ frame_of names.now.plain.now }
     ensures { IfOk result (λ m. m.entries ≡ put_all nonterminal_cmp [] (nonterminal_entries names.now.plain.now)) }
 {
@@ -50,11 +51,25 @@ fn put_starts(
 {
     let mut action: usize = 0;
     for rule in plain.rules.as_slice() {
-        if rule.public {
-            let name = start_name(alloc, plain, rule)?;
-            all.insert(name, start_data(alloc, plain, action, rule)?)?;
-            action = sum(action, 1)?;
-        }
+        put_start(alloc, plain, action, rule, all)?;
+        action = after(action, rule.public)?;
+    }
+    Ok(())
+}
+
+/// Puts the start of a public rule, whose action has this number.
+fn put_start(
+    alloc: Global,
+    plain: &PlainGrammar,
+    action: usize,
+    rule: &PlainRule,
+    all: &mut BTreeMap<NonterminalString, NonterminalData>,
+) -> Result<(), AllocError>
+    ensures { OnOk result (all.new.entries ≡ put_all nonterminal_cmp all.old.entries (start_entry plain.now action rule.now)) }
+{
+    if rule.public {
+        let name = start_name(alloc, plain, rule)?;
+        all.insert(name, start_data(alloc, plain, action, rule)?)?;
     }
     Ok(())
 }
@@ -114,12 +129,29 @@ fn put_rules(
 {
     let mut next = first;
     for rule in names.plain.rules.as_slice() {
-        if !rule.inline {
-            let data = rule_data(alloc, names, extents, sources, next, rule)?;
-            all.insert(rule.name.clone()?, data)?;
-        }
+        put_rule(alloc, names, extents, sources, next, rule, all)?;
         let count = actions_in(names, extents, rule.alternatives.as_slice())?;
         next = sum(next, count)?;
+    }
+    Ok(())
+}
+
+/// Puts a rule that is not inline. Its actions begin with this number.
+fn put_rule(
+    alloc: Global,
+    names: &Names<'_>,
+    extents: &[Extent],
+    sources: &Sources,
+    first: usize,
+    rule: &PlainRule,
+    all: &mut BTreeMap<NonterminalString, NonterminalData>,
+) -> Result<(), AllocError>
+    requires { extents.now ≡ map extent_of (inline_sides names.now.plain.now) }
+    ensures { OnOk result (all.new.entries ≡ put_all nonterminal_cmp all.old.entries (rule_entry names.now.plain.now sources.now first rule.now)) }
+{
+    if !rule.inline {
+        let data = rule_data(alloc, names, extents, sources, first, rule)?;
+        all.insert(rule.name.clone()?, data)?;
     }
     Ok(())
 }
@@ -153,9 +185,9 @@ fn productions(
     ensures { IfOk result (λ p. p ≡ map (production_of name.now) expanded) }
 {
     let Items(expanded) = expanded;
-    let mut productions = Items::new(alloc);
+    let mut productions = empty(alloc);
     for one in expanded {
-        productions.0.push(production_of(name, one)?)?;
+        push(&mut productions, production_of(name, one)?)?;
     }
     Ok(productions)
 }

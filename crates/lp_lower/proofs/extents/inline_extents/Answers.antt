@@ -1,7 +1,7 @@
 use Rattle.std.proofs.Common.{◌≡◌, ◌<◌, [], ◌∷◌, ◌++◌, cond, length, sym, ap, ◌∙◌, arith}
 use Rattle.std.proofs.Math.ListN.{get_or}
 use Rattle.lp_lower.specs.RightSides.{rule_sides}
-use Rattle.lp_lower.proofs.Extents.{extents_push}
+use Rattle.lp_lower.proofs.Counting.{extents_push}
 use Rattle.lp_lower.proofs.SideSteps.{sides_step}
 use Rattle.lp_lower.proofs.extents.inline_extents.Goals as goal
 

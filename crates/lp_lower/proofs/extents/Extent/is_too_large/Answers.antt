@@ -1,7 +1,7 @@
 use Rattle.std.proofs.Common.{◌≡◌, true, false, ◌||◌, sym, ap, ◌∙◌}
 use Rattle.std.specs.Prelude.{nat_lt}
 use Rattle.std.proofs.lemmas.Bool.{lt-ltb, le-ltb}
-use Rattle.lp_lower.proofs.Extents.{too_many_of}
+use Rattle.lp_lower.proofs.Counting.{too_many_of}
 use Rattle.lp_lower.proofs.extents.Extent.is_too_large.Goals as goal
 
 pub returns-then-self-gt-MOST_ALTERNATIVES : goal.returns-then-self-gt-MOST_ALTERNATIVES

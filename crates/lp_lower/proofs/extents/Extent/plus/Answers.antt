@@ -1,4 +1,4 @@
-use Rattle.lp_lower.proofs.Extents.{plus_of}
+use Rattle.lp_lower.proofs.Counting.{plus_of}
 use Rattle.lp_lower.proofs.extents.Extent.plus.Goals as goal
 
 pub returns : goal.returns

@@ -1,4 +1,4 @@
-use Rattle.lp_lower.proofs.Extents.{times_of}
+use Rattle.lp_lower.proofs.Counting.{times_of}
 use Rattle.lp_lower.proofs.extents.Extent.times.Goals as goal
 
 pub returns : goal.returns
