@@ -1,0 +1,9 @@
+pub mod Causes
+pub mod Choices
+pub mod Extents
+pub mod Naming
+pub mod Places
+pub mod Refusals
+pub mod Repeats
+pub mod RightSides
+pub mod Symbols

@@ -1,136 +1,285 @@
-//! How alternatives are expanded: `@L`, `@R` and inline rules are replaced in every combination,
-//! the leftmost slowest.
+//! How alternatives are expanded, and how many actions they have.
 
-use crate::names::{Names, Target, is_inline};
-use crate::plain::{PlainAlternative, PlainGrammar, PlainRule};
+use crate::combine::{Combination, Expanded, Part, combinations};
+use crate::extents::{Extent, alternative_extent};
+use crate::frame::{Frame, sum};
+use crate::lists::{empty, push};
+use crate::names::{Names, Target};
+use crate::plain::{PlainAlternative, PlainKind, PlainRule};
+use crate::refusals::is_inline;
+use lp_repr::repr::{Symbol, TerminalString};
+use lp_repr::text::Items;
 use std::alloc::{AllocError, Global};
 
-/// The most alternatives of all expanded rules together.
-pub const MOST_ALTERNATIVES: usize = 65_536;
-
-/// The most symbols of all expanded rules together.
-pub const MOST_SYMBOLS: usize = 1_048_576;
-
-/// How many expanded alternatives there are, and how many symbols they have together. A number
-/// that would pass the greatest one stays there.
-#[derive(Clone, Copy, Debug, PartialEq, Eq)]
-pub struct Extent {
-    pub alternatives: usize,
-    pub symbols: usize,
+/// What `@L`, `@R` and inline rules are replaced by.
+#[derive(Drop)]
+pub struct Sources {
+    pub lookahead: Items<Expanded>,
+    pub lookbehind: Items<Expanded>,
+    /// Of each rule so far; none of one that isn't inline.
+    pub inlines: Items<Items<Expanded>>,
 }
 
-impl Extent {
-    pub const NONE: Extent = Extent {
-        alternatives: 0,
-        symbols: 0,
-    };
-
-    /// One alternative of no symbols.
-    pub const EMPTY: Extent = Extent {
-        alternatives: 1,
-        symbols: 0,
-    };
-
-    /// One alternative of one symbol.
-    pub const ONE: Extent = Extent {
-        alternatives: 1,
-        symbols: 1,
-    };
-
-    /// Of these alternatives and those.
-    pub fn plus(self, other: Extent) -> Extent {
-        Extent {
-            alternatives: self.alternatives.saturating_add(other.alternatives),
-            symbols: self.symbols.saturating_add(other.symbols),
+impl Sources {
+    /// The expanded alternatives of the rule of this number.
+    fn inline(&self, number: usize) -> &[Expanded] {
+        match self.inlines.as_slice().get(number) {
+            None => &[],
+            Some(expanded) => expanded.as_slice(),
         }
     }
-
-    /// Of each of these alternatives followed by each of those.
-    pub fn times(self, other: Extent) -> Extent {
-        let left = self.symbols.saturating_mul(other.alternatives);
-        let right = other.symbols.saturating_mul(self.alternatives);
-        Extent {
-            alternatives: self.alternatives.saturating_mul(other.alternatives),
-            symbols: left.saturating_add(right),
-        }
-    }
-
-    /// More than all rules may have together.
-    pub fn is_too_large(self) -> bool {
-        self.alternatives > MOST_ALTERNATIVES || self.symbols > MOST_SYMBOLS
-    }
 }
 
-/// The extents of the inline rules, none for other rules. Each inline rule uses only inline rules
-/// above it.
-pub fn inline_extents(
-    alloc: Global,
-    plain: &PlainGrammar,
+/// What may stand in the place of a symbol.
+fn part<'s>(
     names: &Names<'_>,
-) -> Result<Vec<Extent>, AllocError> {
-    let rules = plain.rules.as_slice();
-    let mut extents = Vec::new(alloc);
-    for rule in rules {
-        let extent = if rule.inline {
-            rule_extent(rules, names, extents.as_slice(), rule)
-        } else {
-            Extent::NONE
-        };
-        extents.push(extent)?;
-    }
-    Ok(extents)
-}
-
-pub fn rule_extent(
-    rules: &[PlainRule],
-    names: &Names<'_>,
-    inline: &[Extent],
-    rule: &PlainRule,
-) -> Extent {
-    let mut extent = Extent::NONE;
-    for alternative in rule.alternatives.as_slice() {
-        extent = extent.plus(alternative_extent(rules, names, inline, alternative));
-    }
-    extent
-}
-
-pub fn alternative_extent(
-    rules: &[PlainRule],
-    names: &Names<'_>,
-    inline: &[Extent],
-    alternative: &PlainAlternative,
-) -> Extent {
-    let mut extent = Extent::EMPTY;
-    for symbol in alternative.symbols.as_slice() {
-        let target = names.target(&symbol.kind);
-        extent = extent.times(target_extent(rules, inline, target));
-    }
-    extent
-}
-
-fn target_extent(rules: &[PlainRule], inline: &[Extent], target: Option<Target>) -> Extent {
+    sources: &'s Sources,
+    target: Option<Target>,
+) -> Result<Part<'s>, AllocError> {
     match target {
-        Some(Target::Lookahead | Target::Lookbehind) => Extent::EMPTY,
-        Some(Target::Rule(number)) if is_inline(rules, number) => match inline.get(number) {
-            None => Extent::NONE,
-            Some(extent) => *extent,
-        },
-        _ => Extent::ONE,
+        None => Ok(Part::Options(&[])),
+        Some(Target::Rule(number)) => rule_part(names, sources, number),
+        Some(Target::Terminal(number)) => terminal_part(names, number),
+        Some(Target::Lookahead) => Ok(Part::Options(sources.lookahead.as_slice())),
+        Some(Target::Lookbehind) => Ok(Part::Options(sources.lookbehind.as_slice())),
+        Some(Target::Error) => Ok(Part::Itself(Symbol::Terminal(TerminalString::Error))),
     }
 }
 
-/// The place of the first rule with which the expanded rules are too large.
-pub fn too_many(plain: &PlainGrammar, names: &Names<'_>, inline: &[Extent]) -> Option<usize> {
-    let rules = plain.rules.as_slice();
-    let mut extent = Extent::NONE;
-    for rule in rules {
-        extent = extent.plus(rule_extent(rules, names, inline, rule));
-        if rule.public {
-            extent = extent.plus(Extent::ONE);
-        }
-        if extent.is_too_large() {
-            return Some(rule.place);
+/// What may stand in the place of the rule of this number.
+fn rule_part<'s>(
+    names: &Names<'_>,
+    sources: &'s Sources,
+    number: usize,
+) -> Result<Part<'s>, AllocError> {
+    match names.rule(number) {
+        None => Ok(Part::Options(&[])),
+        Some(rule) => one_rule_part(rule, sources.inline(number)),
+    }
+}
+
+/// What may stand in the place of this rule.
+fn one_rule_part<'s>(rule: &PlainRule, expanded: &'s [Expanded]) -> Result<Part<'s>, AllocError> {
+    if rule.inline {
+        Ok(Part::Options(expanded))
+    } else {
+        Ok(Part::Itself(Symbol::Nonterminal(rule.name.clone()?)))
+    }
+}
+
+/// The terminal of this number.
+fn terminal_part<'s>(names: &Names<'_>, number: usize) -> Result<Part<'s>, AllocError> {
+    match names.terminal(number) {
+        None => Ok(Part::Options(&[])),
+        Some(terminal) => Ok(Part::Itself(Symbol::Terminal(terminal.name.clone()?))),
+    }
+}
+
+/// What may stand in the place of each symbol of an alternative.
+fn parts<'s>(
+    alloc: Global,
+    names: &Names<'_>,
+    sources: &'s Sources,
+    alternative: &PlainAlternative,
+) -> Result<Vec<Part<'s>>, AllocError> {
+    let mut parts = Vec::new(alloc);
+    for symbol in alternative.symbols.as_slice() {
+        parts.push(part(names, sources, names.target(&symbol.kind))?)?;
+    }
+    Ok(parts)
+}
+
+/// The combinations of an alternative.
+pub fn combined(
+    alloc: Global,
+    names: &Names<'_>,
+    sources: &Sources,
+    alternative: &PlainAlternative,
+) -> Result<Vec<Combination>, AllocError> {
+    let parts = parts(alloc, names, sources, alternative)?;
+    combinations(alloc, alternative.fallible, parts.as_slice())
+}
+
+/// Whether something in an alternative is replaced.
+pub fn is_replaced(names: &Names<'_>, alternative: &PlainAlternative) -> bool {
+    for symbol in alternative.symbols.as_slice() {
+        if is_replaced_kind(names, &symbol.kind) {
+            return true;
         }
     }
-    None
+    false
+}
+
+/// Whether a symbol is replaced.
+fn is_replaced_kind(names: &Names<'_>, kind: &PlainKind) -> bool {
+    match names.target(kind) {
+        None => false,
+        Some(Target::Rule(number)) => is_inline(names.plain.rules.as_slice(), number),
+        Some(Target::Terminal(_)) => false,
+        Some(Target::Lookahead) => true,
+        Some(Target::Lookbehind) => true,
+        Some(Target::Error) => false,
+    }
+}
+
+/// How many actions an alternative has: its user action, and an inline per combination where
+/// something is replaced.
+pub fn action_count(
+    names: &Names<'_>,
+    extents: &[Extent],
+    alternative: &PlainAlternative,
+) -> Result<usize, AllocError> {
+    if is_replaced(names, alternative) {
+        sum(1, side_count(names, extents, alternative)?)
+    } else {
+        Ok(1)
+    }
+}
+
+/// How many right sides an alternative has. More than a usize can count are more than memory can
+/// hold.
+fn side_count(
+    names: &Names<'_>,
+    extents: &[Extent],
+    alternative: &PlainAlternative,
+) -> Result<usize, AllocError> {
+    let count = alternative_extent(names, extents, alternative).alternatives;
+    if count == usize::MAX {
+        return Err(AllocError);
+    }
+    Ok(count)
+}
+
+/// How many actions these alternatives have.
+pub fn actions_in(
+    names: &Names<'_>,
+    extents: &[Extent],
+    alternatives: &[PlainAlternative],
+) -> Result<usize, AllocError> {
+    let mut count: usize = 0;
+    for alternative in alternatives {
+        let more = action_count(names, extents, alternative)?;
+        count = sum(count, more)?;
+    }
+    Ok(count)
+}
+
+/// Adds the expanded alternatives of an alternative whose user action has this number.
+fn push_expanded(
+    alloc: Global,
+    names: &Names<'_>,
+    sources: &Sources,
+    user: usize,
+    alternative: &PlainAlternative,
+    all: &mut Items<Expanded>,
+) -> Result<(), AllocError> {
+    let combinations = combined(alloc, names, sources, alternative)?;
+    let first = if is_replaced(names, alternative) {
+        sum(user, 1)?
+    } else {
+        user
+    };
+    push_numbered(first, combinations, all)
+}
+
+/// Adds these combinations as expanded alternatives, whose actions begin with this number.
+fn push_numbered(
+    first: usize,
+    combinations: Vec<Combination>,
+    all: &mut Items<Expanded>,
+) -> Result<(), AllocError> {
+    let mut action = first;
+    for combination in combinations {
+        let Combination {
+            inlined: _,
+            fallible,
+            symbols,
+        } = combination;
+        let expanded = Expanded {
+            action,
+            fallible,
+            symbols,
+        };
+        push(all, expanded)?;
+        action = sum(action, 1)?;
+    }
+    Ok(())
+}
+
+/// The expanded alternatives of these alternatives, whose actions begin with this number.
+pub fn expanded_all(
+    alloc: Global,
+    names: &Names<'_>,
+    extents: &[Extent],
+    sources: &Sources,
+    first: usize,
+    alternatives: &[PlainAlternative],
+) -> Result<Items<Expanded>, AllocError> {
+    let mut all = empty(alloc);
+    let mut user = first;
+    for alternative in alternatives {
+        push_expanded(alloc, names, sources, user, alternative, &mut all)?;
+        let count = action_count(names, extents, alternative)?;
+        user = sum(user, count)?;
+    }
+    Ok(all)
+}
+
+/// What `@L`, `@R` and the inline rules are replaced by. Each inline rule uses only inline rules
+/// above it.
+pub fn make_sources(
+    alloc: Global,
+    names: &Names<'_>,
+    extents: &[Extent],
+    frame: Frame,
+) -> Result<Sources, AllocError> {
+    let mut sources = Sources {
+        lookahead: lookaround(alloc, frame.lookahead)?,
+        lookbehind: lookaround(alloc, frame.lookbehind)?,
+        inlines: empty(alloc),
+    };
+    let mut first = frame.first;
+    for rule in names.plain.rules.as_slice() {
+        let expanded = inline_expanded(alloc, names, extents, &sources, first, rule)?;
+        push(&mut sources.inlines, expanded)?;
+        let count = actions_in(names, extents, rule.alternatives.as_slice())?;
+        first = sum(first, count)?;
+    }
+    Ok(sources)
+}
+
+/// A lookaround of this action.
+fn lookaround(alloc: Global, action: usize) -> Result<Items<Expanded>, AllocError> {
+    let mut one = empty(alloc);
+    let expanded = Expanded {
+        action,
+        fallible: false,
+        symbols: empty(alloc),
+    };
+    push(&mut one, expanded)?;
+    Ok(one)
+}
+
+/// The expanded alternatives of an inline rule, whose actions begin with this number; none of
+/// another rule.
+fn inline_expanded(
+    alloc: Global,
+    names: &Names<'_>,
+    extents: &[Extent],
+    sources: &Sources,
+    first: usize,
+    rule: &PlainRule,
+) -> Result<Items<Expanded>, AllocError> {
+    if rule.inline {
+        expanded_all(
+            alloc,
+            names,
+            extents,
+            sources,
+            first,
+            rule.alternatives.as_slice(),
+        )
+    } else {
+        Ok(empty(alloc))
+    }
 }

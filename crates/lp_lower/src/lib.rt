@@ -1,11 +1,19 @@
 //! Plain grammars, and the lowered grammars that they stand for.
 #![tactic(auto)]
 
-mod build;
+mod actions;
+mod combine;
 mod expand;
+mod extents;
+mod frame;
+mod lists;
 mod lowering;
 mod names;
 mod plain;
+mod productions;
+mod refusals;
+mod symbols;
+mod tables;
 mod types;
 
 pub use lowering::{LowerFault, lower};

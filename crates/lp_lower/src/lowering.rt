@@ -1,10 +1,23 @@
 //! Lowering, and its refusals.
 
-use crate::build::lower_rules;
-use crate::expand::{inline_extents, too_many};
-use crate::names::{Names, duplicate, inline_order, unknown_name};
+ghost use Rattle.std.specs.Prelude.{◌≡◌, IfErr, IfOk, OnOk, map};
+ghost use Rattle.lp_lower.specs.Causes.{IsAccepted, IsCause};
+ghost use Rattle.lp_lower.specs.Extents.{extent_of};
+ghost use Rattle.lp_lower.specs.RightSides.{inline_sides};
+
+use crate::actions::actions;
+use crate::expand::{Sources, make_sources};
+use crate::extents::{Extent, inline_extents, too_many};
+use crate::frame::{Frame, make_frame};
+use crate::names::Names;
 use crate::plain::PlainGrammar;
-use lp_repr::repr::Grammar;
+use crate::productions::nonterminals;
+use crate::refusals::{duplicate, inline_order, unknown_name};
+use crate::symbols::all_symbols;
+use crate::tables::{nonterminal_types, patterns, public_names, terminal_names, terminal_types};
+use crate::types::given;
+use lp_repr::repr::{Grammar, Parameter, TerminalSet, Types, WhereClause};
+use lp_repr::text::Items;
 use std::alloc::{AllocError, Global};
 
 /// Why a plain grammar isn't lowered. Places are bytes of its file.
@@ -22,6 +35,10 @@ pub enum LowerFault {
 }
 
 impl From<AllocError> for LowerFault {
+    ghost use Rattle.lp_lower.specs.declared.lowering.LowerFault.TheVariants.{Memory};
+
+    ghost from_gives = { λ _ e. e ≡ Memory };
+
     fn from(_e: AllocError) -> LowerFault {
         LowerFault::Memory
     }
@@ -29,20 +46,91 @@ impl From<AllocError> for LowerFault {
 
 /// The grammar that a plain grammar stands for. The refusals come in the order of `LowerFault`,
 /// each at its least place.
-pub fn lower(alloc: Global, grammar: &PlainGrammar) -> Result<Grammar, LowerFault> {
+pub fn lower(alloc: Global, grammar: &PlainGrammar) -> Result<Grammar, LowerFault>
+    ensures refused { IfErr result (IsCause grammar.now) }
+    ensures accepted { OnOk result (IsAccepted grammar.now) }
+{
     let names = Names::new(alloc, grammar)?;
-    if let Some(place) = unknown_name(grammar, &names) {
+    let extents = accept(alloc, &names)?;
+    Ok(lowered(alloc, &names, extents.as_slice())?)
+}
+
+/// The extents of the inline rules of a grammar that is not refused.
+fn accept(alloc: Global, names: &Names<'_>) -> Result<Vec<Extent>, LowerFault>
+    ensures refused { IfErr result (IsCause names.now.plain.now) }
+    ensures accepted { OnOk result (IsAccepted names.now.plain.now) }
+    ensures extents { IfOk result (λ v. v.items ≡ map extent_of (inline_sides names.now.plain.now)) }
+{
+    let symbols = all_symbols(alloc, names.plain)?;
+    if let Some(place) = unknown_name(names, symbols.as_slice()) {
         return Err(LowerFault::UnknownName { place });
     }
-    if let Some(place) = inline_order(grammar, &names) {
+    if let Some(place) = inline_order(alloc, names)? {
         return Err(LowerFault::InlineOrder { place });
     }
-    if let Some(place) = duplicate(alloc, grammar)? {
+    if let Some(place) = duplicate(alloc, names.plain)? {
         return Err(LowerFault::Duplicate { place });
     }
-    let inline = inline_extents(alloc, grammar, &names)?;
-    if let Some(place) = too_many(grammar, &names, inline.as_slice()) {
+    let extents = inline_extents(alloc, names)?;
+    if let Some(place) = too_many(names, extents.as_slice()) {
         return Err(LowerFault::TooManyProductions { place });
     }
-    Ok(lower_rules(alloc, grammar, &names, inline.as_slice())?)
+    Ok(extents)
+}
+
+/// The lowering of a grammar.
+fn lowered(alloc: Global, names: &Names<'_>, extents: &[Extent]) -> Result<Grammar, AllocError> {
+    let frame = make_frame(alloc, names.plain)?;
+    let sources = make_sources(alloc, names, extents, frame)?;
+    assembled(alloc, names, extents, frame, &sources)
+}
+
+/// The lowering of a grammar, over what stands in front of its rules and what is replaced.
+fn assembled(
+    alloc: Global,
+    names: &Names<'_>,
+    extents: &[Extent],
+    frame: Frame,
+    sources: &Sources,
+) -> Result<Grammar, AllocError> {
+    let plain = names.plain;
+    let all = terminal_names(alloc, plain, frame.uses_error)?;
+    Ok(Grammar {
+        prefix: plain.prefix.clone()?,
+        algorithm: plain.algorithm,
+        uses_error_recovery: frame.uses_error,
+        start_nonterminals: public_names(alloc, plain)?,
+        uses: plain.uses.clone()?,
+        type_parameters: plain.type_parameters.clone()?,
+        parameters: copy_parameters(&plain.parameters)?,
+        where_clauses: copy_clauses(&plain.where_clauses)?,
+        intern_token: None,
+        action_fn_defns: actions(alloc, names, extents, sources, frame)?,
+        terminals: TerminalSet { all },
+        nonterminals: nonterminals(alloc, names, extents, sources, frame)?,
+        conversions: patterns(alloc, plain)?,
+        types: types(alloc, plain, frame.uses_error)?,
+        module_attributes: plain.attributes.clone()?,
+    })
+}
+
+/// Copies of parameters.
+fn copy_parameters(parameters: &Items<Parameter>) -> Result<Items<Parameter>, AllocError> {
+    parameters.clone()
+}
+
+/// Copies of clauses.
+fn copy_clauses(clauses: &Items<WhereClause>) -> Result<Items<WhereClause>, AllocError> {
+    clauses.clone()
+}
+
+/// The types of a grammar.
+fn types(alloc: Global, plain: &PlainGrammar, with_error: bool) -> Result<Types, AllocError> {
+    Ok(Types {
+        loc: given(&plain.location)?,
+        token: plain.token.clone()?,
+        error: given(&plain.error)?,
+        terminals: terminal_types(alloc, plain, with_error)?,
+        nonterminals: nonterminal_types(alloc, plain)?,
+    })
 }

@@ -1,24 +1,19 @@
 //! The types of symbols.
 
-use crate::names::Target;
+use crate::names::{Names, Target};
 use crate::plain::PlainGrammar;
 use lp_repr::parse_tree::Path;
-use lp_repr::repr::{NominalTypeRepr, TerminalString, TokenPattern, TypeRepr, Types};
+use lp_repr::repr::{NominalTypeRepr, TypeRepr};
 use lp_repr::text::{Items, Text};
 use std::alloc::{AllocError, Global};
-use std::collections::BTreeMap;
 
 /// A path that isn't absolute, with these arguments.
-fn nominal(alloc: Global, names: &[&str], types: Vec<TypeRepr>) -> Result<TypeRepr, AllocError> {
-    let mut ids = Items::new(alloc);
-    for name in names {
-        ids.0.push(Text(String::from_str(alloc, name)?))?;
-    }
+fn nominal(ids: Items<Text>, types: Vec<TypeRepr>) -> TypeRepr {
     let path = Path {
         absolute: false,
         ids,
     };
-    Ok(TypeRepr::Nominal(NominalTypeRepr { path, types }))
+    TypeRepr::Nominal(NominalTypeRepr { path, types })
 }
 
 /// The type of locations, `()` by default.
@@ -34,100 +29,101 @@ fn error_type(alloc: Global, plain: &PlainGrammar) -> Result<TypeRepr, AllocErro
     match &plain.error {
         Some(ty) => ty.clone(),
         None => {
-            let text = nominal(alloc, &["str"], Vec::new(alloc))?;
+            let ids = Items(vec![in alloc; Text::from_str(alloc, "str")?]?);
             Ok(TypeRepr::Ref {
                 lifetime: Some(String::from_str(alloc, "'static")?),
                 mutable: false,
-                referent: Box::new(alloc, text)?,
+                referent: Box::new(alloc, nominal(ids, Vec::new(alloc)))?,
             })
         }
     }
 }
 
 /// The prefix and a name.
-pub fn prefixed(alloc: Global, plain: &PlainGrammar, name: &str) -> Result<String, AllocError> {
+pub fn prefixed(alloc: Global, plain: &PlainGrammar, name: &str) -> Result<Text, AllocError> {
     let mut text = String::from_str(alloc, plain.prefix.as_str())?;
     text.push_str(name)?;
-    Ok(text)
+    Ok(Text(text))
 }
 
 /// The type of the error terminal.
 pub fn recovery_type(alloc: Global, plain: &PlainGrammar) -> Result<TypeRepr, AllocError> {
     let crate_name = prefixed(alloc, plain, "lalrpop_util")?;
-    let mut types = Vec::new(alloc);
-    types.push(location_type(alloc, plain)?)?;
-    types.push(plain.token.clone()?)?;
-    types.push(error_type(alloc, plain)?)?;
-    nominal(alloc, &[crate_name.as_str(), "ErrorRecovery"], types)
+    let type_name = Text::from_str(alloc, "ErrorRecovery")?;
+    let location = location_type(alloc, plain)?;
+    let token = plain.token.clone()?;
+    let error = error_type(alloc, plain)?;
+    let ids = Items(vec![in alloc; crate_name, type_name]?);
+    Ok(nominal(ids, vec![in alloc; location, token, error]?))
 }
 
-/// The type of a terminal: of its one capture, of the tuple of its captures, or else of tokens.
-fn pattern_type(
+/// Copies of these types.
+fn copy_types(alloc: Global, types: &[TypeRepr]) -> Result<Vec<TypeRepr>, AllocError> {
+    let mut copies = Vec::new(alloc);
+    for ty in types {
+        copies.push(ty.clone()?)?;
+    }
+    Ok(copies)
+}
+
+/// The type of a terminal whose pattern has these holes: of its one capture, of the tuple of its
+/// captures, or else of tokens.
+pub fn holes_type(
     alloc: Global,
     token: &TypeRepr,
-    pattern: &TokenPattern,
+    holes: &[TypeRepr],
 ) -> Result<TypeRepr, AllocError> {
-    match pattern.holes.as_slice() {
-        [] => token.clone(),
-        [hole] => hole.clone(),
-        holes => {
-            let mut types = Vec::new(alloc);
-            for hole in holes {
-                types.push(hole.clone()?)?;
-            }
-            Ok(TypeRepr::Tuple(types))
-        }
+    if holes.is_empty() {
+        return token.clone();
     }
+    if holes.len() == 1 {
+        return holes[0].clone();
+    }
+    Ok(TypeRepr::Tuple(copy_types(alloc, holes)?))
 }
 
 /// The type of what a symbol stands for.
 pub fn target_type(
     alloc: Global,
-    plain: &PlainGrammar,
+    names: &Names<'_>,
     target: Option<Target>,
 ) -> Result<TypeRepr, AllocError> {
     match target {
-        Some(Target::Rule(number)) => match plain.rules.as_slice().get(number) {
-            None => plain.token.clone(),
-            Some(rule) => rule.ty.clone(),
-        },
-        Some(Target::Terminal(number)) => match plain.conversions.as_slice().get(number) {
-            None => plain.token.clone(),
-            Some(terminal) => pattern_type(alloc, &plain.token, &terminal.pattern),
-        },
-        Some(Target::Lookahead | Target::Lookbehind) => location_type(alloc, plain),
-        Some(Target::Error) => recovery_type(alloc, plain),
-        None => plain.token.clone(),
+        None => names.plain.token.clone(),
+        Some(Target::Rule(number)) => rule_type(names, number),
+        Some(Target::Terminal(number)) => terminal_type(alloc, names, number),
+        Some(Target::Lookahead) => location_type(alloc, names.plain),
+        Some(Target::Lookbehind) => location_type(alloc, names.plain),
+        Some(Target::Error) => recovery_type(alloc, names.plain),
+    }
+}
+
+/// The type of the rule of this number.
+fn rule_type(names: &Names<'_>, number: usize) -> Result<TypeRepr, AllocError> {
+    match names.rule(number) {
+        None => names.plain.token.clone(),
+        Some(rule) => rule.ty.clone(),
+    }
+}
+
+/// The type of the terminal of this number.
+fn terminal_type(
+    alloc: Global,
+    names: &Names<'_>,
+    number: usize,
+) -> Result<TypeRepr, AllocError> {
+    match names.terminal(number) {
+        None => names.plain.token.clone(),
+        Some(terminal) => {
+            holes_type(alloc, &names.plain.token, terminal.pattern.holes.as_slice())
+        }
     }
 }
 
 /// A type that may be given.
-fn given(ty: &Option<TypeRepr>) -> Result<Option<TypeRepr>, AllocError> {
+pub fn given(ty: &Option<TypeRepr>) -> Result<Option<TypeRepr>, AllocError> {
     match ty {
         None => Ok(None),
         Some(ty) => Ok(Some(ty.clone()?)),
     }
-}
-
-/// The types of the terminals, and no nonterminals' yet.
-pub fn terminal_types(
-    alloc: Global,
-    plain: &PlainGrammar,
-    uses_error: bool,
-) -> Result<Types, AllocError> {
-    let mut terminals = BTreeMap::new(alloc);
-    for terminal in plain.conversions.as_slice() {
-        let ty = pattern_type(alloc, &plain.token, &terminal.pattern)?;
-        terminals.insert(terminal.name.clone()?, ty)?;
-    }
-    if uses_error {
-        terminals.insert(TerminalString::Error, recovery_type(alloc, plain)?)?;
-    }
-    Ok(Types {
-        loc: given(&plain.location)?,
-        token: plain.token.clone()?,
-        error: given(&plain.error)?,
-        terminals,
-        nonterminals: BTreeMap::new(alloc),
-    })
 }
