@@ -94,7 +94,11 @@ pub fn terminal_types(
     let mut types = BTreeMap::new(alloc);
     put_declared_types(alloc, plain, &mut types)?;
     if with_error {
-        put_type(TerminalString::Error, recovery_type(alloc, plain)?, &mut types)?;
+        put_type(
+            TerminalString::Error,
+            recovery_type(alloc, plain)?,
+            &mut types,
+        )?;
     }
     Ok(types)
 }

@@ -107,11 +107,7 @@ fn rule_type(names: &Names<'_>, number: usize) -> Result<TypeRepr, AllocError> {
 }
 
 /// The type of the terminal of this number.
-fn terminal_type(
-    alloc: Global,
-    names: &Names<'_>,
-    number: usize,
-) -> Result<TypeRepr, AllocError> {
+fn terminal_type(alloc: Global, names: &Names<'_>, number: usize) -> Result<TypeRepr, AllocError> {
     match names.terminal(number) {
         None => names.plain.token.clone(),
         Some(terminal) => {
