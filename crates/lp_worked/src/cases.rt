@@ -39,21 +39,36 @@ pub fn read_cases(alloc: Global, text: &str) -> Result<Vec<Case<'_>>, AllocError
 
 fn read_case(alloc: Global, call: &str) -> Result<Case<'_>, AllocError> {
     let (name, rest) = first_line(call);
-    let mut parts = rest.split("\n-- ");
-    let mut case = Case {
+    let (words, parts) = rest.split_once("\n-- ").unwrap_or((rest, ""));
+    Ok(Case {
         name,
-        words: parts.next().unwrap_or(""),
-        file: "",
-        wants: Vec::new(alloc),
-    };
-    for part in parts {
+        words,
+        file: file_of(parts),
+        wants: wants_of(alloc, parts)?,
+    })
+}
+
+/// The source's text; the empty text where there is none.
+fn file_of(parts: &str) -> &str {
+    for part in parts.split("\n-- ") {
         let (kind, content) = first_line(part);
-        match kind {
-            "file" => case.file = content,
-            _ => case.wants.push(wanted(kind, content))?,
+        if kind == "file" {
+            return content;
         }
     }
-    Ok(case)
+    ""
+}
+
+/// What is wanted, in order.
+fn wants_of<'t>(alloc: Global, parts: &'t str) -> Result<Vec<Want<'t>>, AllocError> {
+    let mut wants = Vec::new(alloc);
+    for part in parts.split("\n-- ") {
+        let (kind, content) = first_line(part);
+        if kind != "file" {
+            wants.push(wanted(kind, content))?;
+        }
+    }
+    Ok(wants)
 }
 
 fn wanted<'t>(kind: &str, content: &'t str) -> Want<'t> {
