@@ -11,7 +11,7 @@ use std::alloc::{AllocError, Global};
 pub fn verdict(alloc: Global, example: &Example, case: Case<'_>) -> Result<String, AllocError> {
     let name = case.name;
     let run = read_run(alloc, example, case)?;
-    if !wants(case) || lists(case.words).is_none() {
+    if !wants(case) || kinds_of(case.words).is_none() {
         return format!(in alloc; "{name}: wants nothing");
     }
     for expecting in [Expecting::Trial, Expecting::Actions] {
@@ -51,25 +51,25 @@ fn read_run(alloc: Global, example: &Example, case: Case<'_>) -> Result<Run, All
 
 /// Which kinds of expected lists a run is made with.
 #[derive(Clone, Copy)]
-struct Lists {
+struct Kinds {
     trial: bool,
     actions: bool,
 }
 
-fn lists(words: &str) -> Option<Lists> {
+fn kinds_of(words: &str) -> Option<Kinds> {
     let (trial, actions) = match words.split_once(' ') {
         Some(("both", _)) => (true, true),
         Some(("trial", _)) => (true, false),
         Some(("actions", _)) => (false, true),
         _ => return None,
     };
-    Some(Lists { trial, actions })
+    Some(Kinds { trial, actions })
 }
 
 fn is_made(words: &str, expecting: Expecting) -> bool {
-    match (lists(words), expecting) {
-        (Some(lists), Expecting::Trial) => lists.trial,
-        (Some(lists), Expecting::Actions) => lists.actions,
+    match (kinds_of(words), expecting) {
+        (Some(kinds), Expecting::Trial) => kinds.trial,
+        (Some(kinds), Expecting::Actions) => kinds.actions,
         (None, _) => false,
     }
 }
