@@ -2,7 +2,7 @@
 //! line `== NAME` and the line of its words. Then stand its parts, each behind a line `-- PART`:
 //!
 //! - `file`: the source's text;
-//! - `answers`: the answer, as `told` puts it;
+//! - `answers`: the answer, as `answers` puts it;
 //! - `begins`: the lines with which the output begins;
 //! - `writes`: lines that stand in the output one after another.
 

@@ -3,13 +3,13 @@
 //! `data` has the calls, one subject a file; `cases` says how they are written down.
 #![tactic(auto)]
 
+mod answers;
 mod cases;
 mod faults;
-mod told;
 
+use crate::answers::told;
 use crate::cases::{Case, Want, read_cases};
 use crate::faults::fault_lines;
-use crate::told::told;
 use lp_repr::Text;
 use lp_tool::{Report, Status, run_tool};
 use lp_write::{MemorySink, MemorySource};
