@@ -95,7 +95,8 @@ fn reads_bytes(alloc: Global, file: &[u8]) -> Result<bool, AllocError> {
 /// Where a read fails, up to the one that gives the end, that is told and nothing is written.
 fn reads_fail(alloc: Global, file: &[u8]) -> Result<bool, AllocError> {
     let mut holds = true;
-    for number in 0..=file.len().div_ceil(MOST) {
+    let reads = file.len().div_ceil(MOST).saturating_add(1);
+    for number in 0..reads {
         let outside = Outside {
             failing_read: u64::try_from(number).ok(),
             ..WELL
@@ -110,12 +111,13 @@ fn reads_fail(alloc: Global, file: &[u8]) -> Result<bool, AllocError> {
 fn writes_fail(alloc: Global, file: &[u8]) -> Result<bool, AllocError> {
     let (_, whole) = call(alloc, file, &WELL)?;
     let mut holds = true;
-    for (number, written) in (0..whole.len()).step_by(MOST).enumerate() {
+    for number in 0..whole.len().div_ceil(MOST) {
         let outside = Outside {
             failing_write: u64::try_from(number).ok(),
             ..WELL
         };
         let (report, output) = call(alloc, file, &outside)?;
+        let written = number.saturating_mul(MOST);
         let front = whole.as_slice().get(..written).unwrap_or(&[]);
         holds = holds && matches!(report.status, Status::WriteFault) && output.as_slice() == front;
     }
