@@ -4,6 +4,8 @@ use Rattle.lp_repr.specs.Numbering.{productions_of}
 use Rattle.lp_repr.specs.declared.lr1.StartStates.{StartStates}
 use Rattle.lp_repr.specs.declared.repr.Grammar.{Grammar}
 use Rattle.lp_repr.specs.declared.repr.LrCodeGeneration.TheVariants.{TestAll, RecursiveAscent}
+use Rattle.lp_texts.specs.TextRules.{TextsMeet, IsFirstFault}
+use Rattle.lp_texts.specs.declared.faults.TextFault.TheVariants.{Bad}
 use Rattle.lp_valid.specs.Refusals.{RefusesGrammar}
 use Rattle.lp_valid.specs.ValidGrammar.{IsValidGrammar}
 use Rattle.lp_valid.specs.declared.grammars.GrammarFault.TheVariants.{Rule}
@@ -61,10 +63,11 @@ pub record IsBuildable (g : Grammar) (states : List StartStates) : Type 0 where
   pub by_ascent : SuitsAscent g
   pub counts : CountsFit g states
 
--- none of the causes that are stated holds
+-- none of the causes holds
 pub record MayBeEmitted (g : Grammar) (states : List StartStates) : Type 0 where
   pub buildable : IsBuildable g states
   pub tabled : AreTabled g states
+  pub texts : TextsMeet g
 
 -- what each refusal tells of the grammar and its states: its cause, and that no earlier one holds
 abbrev pub Refuses : Grammar → List StartStates → EmitError → Type 0
@@ -75,7 +78,7 @@ Refuses g states RecoveryInAscent = IsSound g × IsByAscent g × (g.uses_error_r
 Refuses g states (NameClash first second) = IsSound g × IsByAscent g × (g.uses_error_recovery ≡ false) × IsLeastClash g first second
 Refuses g states (TooMany count) = IsSound g × SuitsAscent g × HasTooMany g states count
 Refuses g states (BadTables start state rule) = IsBuildable g states × IsTableFailure g states start state rule
-Refuses g states (BadText place byte) = MayBeEmitted g states
+Refuses g states (BadText place byte) = IsBuildable g states × AreTabled g states × IsFirstFault g (Bad place byte)
 Refuses g states WriteFault = ⊥
 Refuses g states Memory = Unit {0}
 
@@ -83,7 +86,7 @@ Refuses g states Memory = Unit {0}
 abbrev pub RefusesAlways : Grammar → EmitError → Type 0
 RefusesAlways g error = (states : List StartStates) → Refuses g states error
 
--- why a text is not written: its cause, or a fault of the sink where no cause that is stated holds
+-- why a text is not written: its cause, or a fault of the sink where no cause holds
 abbrev pub RefusesToWrite : Grammar → List StartStates → EmitError → Type 0
 RefusesToWrite g states WriteFault = MayBeEmitted g states
 RefusesToWrite g states error = Refuses g states error

@@ -7,7 +7,7 @@ use Rattle.lp_tables.specs.Refusals.{RefusesTables}
 use Rattle.lp_tables.specs.declared.check.TableFault.TheVariants.{Rule}
 use Rattle.lp_emit.specs.Lists.{IsTableFailure}
 use Rattle.lp_emit.specs.declared.errors.EmitError.{EmitError}
-use Rattle.lp_emit.specs.declared.errors.EmitError.TheVariants.{BadTables, BadText, Memory}
+use Rattle.lp_emit.specs.declared.errors.EmitError.TheVariants.{BadTables, Memory}
 
 -- the tables of a start
 abbrev pub RefusesStates : Grammar → ℕ → List Lr1State → EmitError → Type 0
@@ -20,9 +20,3 @@ abbrev pub RefusesLists : Grammar → List StartStates → EmitError → Type 0
 RefusesLists g states (BadTables start state rule) = IsTableFailure g states start state rule
 RefusesLists g states Memory = Unit {0}
 RefusesLists g states error = ⊥
-
--- the texts
-abbrev pub IsOfTexts : EmitError → Type 0
-IsOfTexts (BadText place byte) = Unit {0}
-IsOfTexts Memory = Unit {0}
-IsOfTexts error = ⊥

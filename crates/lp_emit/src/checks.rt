@@ -6,11 +6,11 @@ ghost use Rattle.std.specs.BTreeMap.{keys};
 ghost use Rattle.lp_repr.specs.ValidTables.{IsValidTables};
 ghost use Rattle.lp_emit.specs.Causes.{IsBuildable, IsByAscent, IsSound, IsSupported, MayBeEmitted, Refuses, RefusesAlways, SuitsAscent, greatest_of};
 ghost use Rattle.lp_emit.specs.Lists.{AreTabled, HasItsList, IsTabled};
-ghost use Rattle.lp_emit.specs.Steps.{IsOfTexts, RefusesLists, RefusesStates};
+ghost use Rattle.lp_emit.specs.Steps.{RefusesLists, RefusesStates};
 
 use crate::clash::name_clash;
 use crate::errors::EmitError;
-use lp_program::check_texts::{TextFault, check_texts};
+use lp_texts::{TextFault, check_texts};
 use lp_repr::numbering::production_count;
 use lp_repr::repr::{Grammar, LrCodeGeneration, NonterminalString};
 use lp_repr::{Lr1State, StartStates};
@@ -30,7 +30,7 @@ pub fn check(alloc: Global, grammar: &Grammar, states: &[StartStates]) -> Result
     check_ascent(alloc, grammar)?;
     check_counts(grammar, states)?;
     check_lists(alloc, grammar, states)?;
-    check_all_texts(alloc, grammar)
+    check_all_texts(alloc, grammar, states)
 }
 
 /// There is a start, and the code of one back end is asked for.
@@ -188,8 +188,14 @@ fn no_list(start: usize) -> EmitError
 }
 
 /// The texts can stand in a program.
-fn check_all_texts(alloc: Global, grammar: &Grammar) -> Result<(), EmitError>
-    ensures { IfErr result IsOfTexts }
+fn check_all_texts(
+    alloc: Global,
+    grammar: &Grammar,
+    states: &[StartStates],
+) -> Result<(), EmitError>
+    requires buildable { IsBuildable grammar.now states.now }
+    requires tabled { AreTabled grammar.now states.now }
+    ensures { MatchResult result (λ _. MayBeEmitted grammar.now states.now) (Refuses grammar.now states.now) }
 {
     match check_texts(alloc, grammar) {
         Ok(()) => Ok(()),

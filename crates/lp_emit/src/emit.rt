@@ -24,7 +24,7 @@ pub fn emit_parsers<K: Sink>(
     options: &Options,
     sink: &mut K,
 ) -> Result<(), EmitError>
-    // A text is appended whole, and then none of the stated causes holds.
+    // A text is appended whole, and then none of the causes holds.
     ensures whole { OnOk result ((text : List ℕ) × Took (K.told sink.old) (K.told sink.new) text) }
     ensures passes { OnOk result (MayBeEmitted grammar.now states.now) }
 

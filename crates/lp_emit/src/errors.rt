@@ -29,8 +29,8 @@ pub enum EmitError {
         first: usize,
         second: usize,
     },
-    /// Tables are asked for, and there are more states of a start, or more productions, than
-    /// 2,147,483,647: the greatest of these counts.
+    /// There are more states of a start, or more productions, than 2,147,483,647: the greatest of
+    /// these counts.
     #[error("too many")]
     TooMany {
         count: usize,
