@@ -1,21 +1,22 @@
 //! A program is entered once: its forms become functions of the core language.
 
-use crate::action::action_fn;
-use crate::ascent::{start, state_fn};
-use crate::ascent_reduce::{ascent_accepts, ascent_expected, ascent_simulate};
-use crate::forms::{Form, first};
-use crate::maker::Maker;
-use crate::methods::{Methods, make_methods};
-use crate::reduce::{accepts, pop, reduce, reduce_fn, simulate_reduce};
-use crate::scope::Scope;
-use crate::source::{is_located, item_closure};
-use crate::table::{
+use lp_ascent_bodies::ascent::{start, state_fn};
+use lp_ascent_bodies::ascent_reduce::{ascent_accepts, ascent_expected, ascent_simulate};
+use lp_bodies::action::action_fn;
+use lp_bodies::methods::make_methods;
+use lp_bodies::reduce::{accepts, pop, reduce, reduce_fn, simulate_reduce};
+use lp_bodies::source::{is_located, item_closure};
+use lp_bodies::table::{
     action_lookup, expected, expected_from_states, goto_fn, make_table, make_terminals,
     token_to_integer, token_to_symbol,
 };
-use crate::texts::{Bound, bound_by, plain_name};
 use lp_core::{Code, Expr, Function};
 use lp_form::Part;
+use lp_maker::forms::{Form, first};
+use lp_maker::maker::Maker;
+use lp_maker::methods::Methods;
+use lp_maker::scope::Scope;
+use lp_maker::texts::{Bound, bound_by, plain_name};
 use lp_program::Program;
 use std::alloc::{AllocError, Global};
 

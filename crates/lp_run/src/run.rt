@@ -1,13 +1,13 @@
 //! Running a program.
 
 use crate::enter::{Entered, Parser, enter};
-use crate::runner::{Runner, result_of};
-use crate::turns::drive;
 use lp_core::{Atom, Ending, Setting, Value, World, call};
 use lp_driver::{RunError, Stop};
 use lp_program::Program;
 use lp_repr::values::{Event, Outcome, RunItem};
 use lp_repr::{Items, Text};
+use lp_turns::runner::{Runner, result_of};
+use lp_turns::turns::drive;
 use std::alloc::{AllocError, Global};
 
 /// What a run did: its calls of user code, how it ended, and how many steps it made.

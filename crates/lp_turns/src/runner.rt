@@ -1,9 +1,9 @@
 //! The definition of a program's parser: each question is answered by evaluating a method.
 
-use crate::methods::Methods;
 use lp_core::cell::{Cell, typed};
 use lp_core::{Atom, Ending, Setting, Tag, Value, World, call};
 use lp_driver::{Simulated, Stop};
+use lp_maker::methods::Methods;
 use lp_repr::Text;
 use lp_repr::values::{
     Loc, ParseError, Recovery, RunItem, RunParseError, Term, TokenValue, UserError,

@@ -1,14 +1,14 @@
 //! Recursive ascent: the `parse` method and the state functions.
 
 use crate::ascent_reduce::{ascent_reduce, expected_error};
-use crate::forms::{Form, first};
-use crate::maker::{Maker, here};
-use crate::reduce::vec_type;
-use crate::scope::Scope;
-use crate::table::captured;
-use crate::texts::{form_of, numbered, parted, wide_number};
+use lp_bodies::reduce::vec_type;
+use lp_bodies::table::captured;
 use lp_core::{Case, Expr, Function, Join, Leaf, Op, Place, StateType, Tag, Test};
 use lp_form::Part;
+use lp_maker::forms::{Form, first};
+use lp_maker::maker::{Maker, here};
+use lp_maker::scope::Scope;
+use lp_maker::texts::{form_of, numbered, parted, wide_number};
 use lp_repr::Text;
 use std::alloc::AllocError;
 

@@ -1,14 +1,14 @@
 //! Recursive ascent: reductions, errors and trials.
 
 use crate::ascent::{Lines, give_made, take_line};
-use crate::forms::{Form, first};
-use crate::maker::{Maker, here};
-use crate::reduce::{answer_if, part_closure, production_of, span_at, span_popped, state_at};
-use crate::scope::Scope;
-use crate::table::{filtered, keeping};
-use crate::texts::{number, numbered, state_type, wide_number};
+use lp_bodies::reduce::{answer_if, part_closure, production_of, span_at, span_popped, state_at};
+use lp_bodies::table::{filtered, keeping};
 use lp_core::{Expr, Function, Join, Leaf, Op, StateType, Tag, Test};
 use lp_form::Part;
+use lp_maker::forms::{Form, first};
+use lp_maker::maker::{Maker, here};
+use lp_maker::scope::Scope;
+use lp_maker::texts::{number, numbered, state_type, wide_number};
 use std::alloc::AllocError;
 
 /// The lines of a reduction, in a block of their own.

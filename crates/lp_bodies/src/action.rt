@@ -1,11 +1,11 @@
 //! Action functions.
 
-use crate::forms::{Form, first, second};
-use crate::maker::Maker;
-use crate::scope::Scope;
-use crate::texts::{Bound, bound_by, numbered};
 use lp_core::{Expr, Function, Join, Op, Tag};
 use lp_form::Part;
+use lp_maker::forms::{Form, first, second};
+use lp_maker::maker::Maker;
+use lp_maker::scope::Scope;
+use lp_maker::texts::{Bound, bound_by, numbered};
 use lp_repr::Text;
 use std::alloc::AllocError;
 

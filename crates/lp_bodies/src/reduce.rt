@@ -1,12 +1,12 @@
 //! Reductions of table-driven code, and the machine's own trials.
 
-use crate::forms::{Form, first, second};
-use crate::maker::{Maker, here};
-use crate::scope::Scope;
 use crate::table::eof_entry;
-use crate::texts::{number, numbered, state_type, wide_number};
 use lp_core::{Expr, Function, Join, Leaf, Op, StateType, Tag, Test};
 use lp_form::Part;
+use lp_maker::forms::{Form, first, second};
+use lp_maker::maker::{Maker, here};
+use lp_maker::scope::Scope;
+use lp_maker::texts::{number, numbered, state_type, wide_number};
 use std::alloc::AllocError;
 
 /// What a reduction would do.

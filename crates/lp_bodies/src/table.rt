@@ -1,13 +1,13 @@
 //! The functions of a module that look at tables and tokens.
 
-use crate::forms::Form;
-use crate::maker::{Maker, here};
-use crate::scope::Scope;
-use crate::texts::{
-    capture, captures, form_of, number, parted, patterns, range, state_type, wide_number,
-};
 use lp_core::{Case, Expr, Function, Join, Leaf, Op, Table, Tag, Test};
 use lp_form::Part;
+use lp_maker::forms::Form;
+use lp_maker::maker::{Maker, here};
+use lp_maker::scope::Scope;
+use lp_maker::texts::{
+    capture, captures, form_of, number, parted, patterns, range, state_type, wide_number,
+};
 use lp_repr::Text;
 use std::alloc::AllocError;
 

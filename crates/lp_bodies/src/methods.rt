@@ -1,32 +1,14 @@
 //! What the driver asks: the methods of the machine.
 
-use crate::forms::Form;
-use crate::maker::Maker;
-use crate::scope::Scope;
 use crate::table::eof_entry;
-use crate::texts::{number, state_type};
-use lp_core::{Expr, Function, Leaf, Op, StateType};
+use lp_core::{Expr, Function, Leaf, Op};
 use lp_form::Part;
+use lp_maker::forms::Form;
+use lp_maker::maker::Maker;
+use lp_maker::methods::Methods;
+use lp_maker::scope::Scope;
+use lp_maker::texts::{number, state_type};
 use std::alloc::AllocError;
-
-/// The numbers of the methods, and the state type of the machine.
-#[derive(Clone, Copy)]
-pub struct Methods {
-    pub state_type: Option<StateType>,
-    pub start_location: usize,
-    pub start_state: usize,
-    pub token_to_index: usize,
-    pub action: usize,
-    pub error_action: usize,
-    pub eof_action: usize,
-    pub goto: usize,
-    pub token_to_symbol: usize,
-    pub expected_tokens_from_states: usize,
-    pub uses_error_recovery: usize,
-    pub error_recovery_symbol: usize,
-    pub reduce: usize,
-    pub simulate_reduce: usize,
-}
 
 fn method<'p>(maker: &mut Maker<'p>, params: usize, body: Expr) -> Result<usize, AllocError> {
     maker.closure(Function {

@@ -1,9 +1,9 @@
 //! The token source, and how its items become triples.
 
-use crate::forms::Form;
-use crate::maker::Maker;
 use lp_core::{Expr, Function, Join, Leaf, Op, Tag};
 use lp_form::Part;
+use lp_maker::forms::Form;
+use lp_maker::maker::Maker;
 use std::alloc::AllocError;
 
 /// Whether items keep their locations.

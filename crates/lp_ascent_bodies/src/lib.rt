@@ -1,0 +1,5 @@
+//! The bodies of the functions of a recursive ascent parser.
+#![tactic(auto)]
+
+pub mod ascent;
+pub mod ascent_reduce;
