@@ -6,12 +6,11 @@ ghost use Rattle.lp_parts.specs.Entries.{EntriesFit};
 
 use crate::slots::all_slots;
 use crate::state::{States, state_function};
-use lp_parts::filter::Filter;
-use lp_parts::texts::joined;
-use lp_program::Node;
-use lp_program::build::{
+use lp_build::{
     ReturnVariant, TrialArm, ascent_accepts, ascent_expected, ascent_simulate, return_enum, start,
 };
+use lp_parts::filter::Filter;
+use lp_parts::texts::joined;
 use lp_repr::Lr1State;
 use lp_repr::repr::Grammar;
 use lp_table::frame::{module, parser_with};
@@ -19,6 +18,7 @@ use lp_table::machine::reduced;
 use lp_table::pieces::{copied, copied_unless_empty, lent_name, made};
 use lp_table::shared::{Shared, StartTexts, nonterminal_type, start_at};
 use lp_table::tables::{add_action_table, goto_function, terminal_names};
+use lp_tree::Node;
 use lp_write::Escape;
 use std::alloc::{AllocError, Global};
 

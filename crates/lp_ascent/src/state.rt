@@ -1,11 +1,10 @@
 //! The function of one state.
 
 use crate::slots::Slots;
-use lp_program::build::{
+use lp_build::{
     AscentSpan, ErrorLocation, FunctionName, GotoLoopArm, Reduction, error_arm, goto_loop,
     reduce_arm, shift_arm, state_fn, transition,
 };
-use lp_program::{Node, Piece};
 use lp_repr::repr::{Production, TokenPattern};
 use lp_repr::{Lr1State, Token};
 use lp_table::headers::grammar_header;
@@ -14,6 +13,7 @@ use lp_table::pieces::{copied, made};
 use lp_table::shared::{Shared, symbol_type};
 use lp_table::tables::item_lines;
 use lp_table::tokens::{capture_names, named_pattern, pattern_text};
+use lp_tree::{Node, Piece};
 use std::alloc::{AllocError, Global};
 
 /// What the state functions of a module share.

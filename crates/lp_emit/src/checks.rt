@@ -10,11 +10,11 @@ ghost use Rattle.lp_emit.specs.Steps.{RefusesLists, RefusesStates};
 
 use crate::clash::name_clash;
 use crate::errors::EmitError;
-use lp_texts::{TextFault, check_texts};
 use lp_repr::numbering::production_count;
 use lp_repr::repr::{Grammar, LrCodeGeneration, NonterminalString};
 use lp_repr::{Lr1State, StartStates};
 use lp_tables::{TableFault, check_tables};
+use lp_texts::{TextFault, check_texts};
 use lp_valid::{GrammarFault, check_grammar};
 use std::alloc::{AllocError, Global};
 

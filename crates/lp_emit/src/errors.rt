@@ -1,6 +1,6 @@
 //! Why no text is emitted.
 
-use lp_program::TextPlace;
+use lp_texts::TextPlace;
 use std::alloc::AllocError;
 use thiserror::Error;
 

@@ -1,10 +1,10 @@
 //! The tokens of a grammar without an enum of its own.
 
-use lp_program::Node;
-use lp_program::build::{InternEntry, token_module};
+use lp_build::{InternEntry, token_module};
 use lp_repr::repr::{Grammar, InternToken};
 use lp_table::frame::add_inner_uses;
 use lp_table::pieces::made;
+use lp_tree::Node;
 use lp_write::literal;
 use std::alloc::{AllocError, Global};
 

@@ -9,15 +9,13 @@ use crate::fits::first_unfit;
 use crate::intern_token;
 use crate::visibility::{visibility_of, widest_visibility};
 use lp_ascent::build_ascent_module;
+use lp_build::{Triples, attribute, program, reexport, standard_uses, to_triple, use_line};
 use lp_parts::texts::{TypeTexts, each_with_comma};
-use lp_program::build::{
-    Triples, attribute, program, reexport, standard_uses, to_triple, use_line,
-};
-use lp_program::{Node, Piece, Program};
 use lp_repr::repr::{Grammar, LrCodeGeneration};
 use lp_repr::{Lr1State, StartStates};
 use lp_table::build_table_module;
 use lp_table::pieces::{lent, lent_name, made, shown};
+use lp_tree::{Node, Piece, Program};
 use std::alloc::{AllocError, Global};
 
 /// The program of a grammar and its states, which has a parser for each start.

@@ -1,6 +1,6 @@
 //! The forms of a program as parts.
 
-use lp_program::view::PartRef;
+use lp_view::PartRef;
 
 /// A form of a program, a row of one, or a line of several alternatives.
 pub type Form<'p> = PartRef<'p>;

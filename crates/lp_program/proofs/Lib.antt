@@ -1,4 +1,3 @@
-pub mod Counting
 pub mod Forests
 pub mod Printing
 pub mod Progress

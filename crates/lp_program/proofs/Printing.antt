@@ -8,7 +8,7 @@ use Rattle.lp_form.specs.Templates.{line, steps_of}
 use Rattle.lp_write.specs.Lines.{Line}
 use Rattle.lp_write.specs.Writes.{Writing, Writes, Ending}
 use Rattle.lp_write.specs.declared.rust.Options.{Options}
-use Rattle.lp_program.specs.declared.tree.Entry.{Entry}
+use Rattle.lp_tree.specs.declared.tree.Entry.{Entry}
 use Rattle.lp_program.specs.Trees.{content, forest, tree_count, whole}
 use Rattle.lp_program.specs.Places.{IsAfter, printed_from}
 use Rattle.lp_program.specs.Printed.{all_lines, part_lines, printed, step_lines}

@@ -8,7 +8,7 @@ use Rattle.lp_write.specs.Lines.Line.{line, verbatim}
 use Rattle.lp_write.specs.Rows.{entry_piece, row_text, AreEntryTexts}
 use Rattle.lp_write.specs.Writes.{Writing, Writes, Ending}
 use Rattle.lp_write.specs.declared.rust.Options.{Options}
-use Rattle.lp_program.specs.declared.tree.RowNote.{RowNote}
+use Rattle.lp_tree.specs.declared.tree.RowNote.{RowNote}
 use Rattle.lp_program.specs.Trees.{Note, note}
 use Rattle.lp_program.specs.TableRows.{entry_line, entry_lines, last_lines, row_entry, row_lines, rows_from}
 use Rattle.lp_program.proofs.Printing.{take-capped}

@@ -7,7 +7,7 @@ use Rattle.lp_write.specs.Writes.{Writing, AppendsAll, Writes, Ending, error_end
 use Rattle.lp_write.specs.declared.rust.Options.{Options}
 use Rattle.lp_write.specs.declared.rust.WriteError.{WriteError}
 use Rattle.lp_write.proofs.Writing.{all-none, writes-then}
-use Rattle.lp_program.specs.declared.tree.Entry.{Entry}
+use Rattle.lp_tree.specs.declared.tree.Entry.{Entry}
 use Rattle.lp_program.specs.Places.{IsAfter, printed_from, takes_next}
 use Rattle.lp_program.specs.Printed.{Printed, all_lines, taken, takes, takes_one}
 use Rattle.lp_program.proofs.Progress.{Left, left-all, left-more, left-none, left-stopped}

@@ -8,7 +8,7 @@ use Rattle.lp_write.specs.Lines.{Line}
 use Rattle.lp_write.specs.Writes.{Writing, AppendsAll, Writes, error_ending}
 use Rattle.lp_write.specs.declared.rust.Options.{Options}
 use Rattle.lp_write.specs.declared.rust.WriteError.{WriteError}
-use Rattle.lp_program.specs.declared.tree.Entry.{Entry}
+use Rattle.lp_tree.specs.declared.tree.Entry.{Entry}
 use Rattle.lp_program.specs.Trees.{content, forest, tree_count}
 use Rattle.lp_program.specs.Places.{IsAfter, printed_from}
 use Rattle.lp_program.specs.OwnLines.{own_lines}

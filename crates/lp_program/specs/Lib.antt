@@ -1,4 +1,3 @@
-pub mod ProgramTree
 pub mod Trees
 pub mod Lines
 pub mod TableRows

@@ -7,7 +7,7 @@ use Rattle.lp_write.specs.Writes.{Ending, error_ending}
 use Rattle.lp_write.specs.Writes.Ending.{complete}
 use Rattle.lp_program.specs.Trees.{forest}
 use Rattle.lp_program.specs.Printed.{Printed, printed, takes}
-use Rattle.lp_program.specs.declared.tree.Entry.{Entry}
+use Rattle.lp_tree.specs.declared.tree.Entry.{Entry}
 
 -- the trees from a place on, each with its lines
 abbrev pub printed_from : Options → List ℕ → List Entry → ℕ → List Printed

@@ -14,9 +14,9 @@ use Rattle.lp_write.specs.declared.rust.Options.{Options}
 use Rattle.lp_program.specs.OwnLines.{own_lines}
 use Rattle.lp_program.specs.Trees.{Content, content, Forest, forest, tree_count, whole}
 use Rattle.lp_program.specs.Trees.Forest.{bare, tree}
-use Rattle.lp_program.specs.declared.tree.Entry.{Entry}
-use Rattle.lp_program.specs.declared.tree.Node.{Node}
-use Rattle.lp_program.specs.declared.tree.Program.{Program}
+use Rattle.lp_tree.specs.declared.tree.Entry.{Entry}
+use Rattle.lp_tree.specs.declared.tree.Node.{Node}
+use Rattle.lp_tree.specs.declared.tree.Program.{Program}
 
 -- whether a part is one of a class
 abbrev pub is_member : Class → Part → Bool

@@ -1,8 +1,8 @@
 -- The trees of a list of parts, and what each part holds.
 use Rattle.std.specs.Prelude.{ℕ, zero, suc, ◌+◌, ℤ, List, [], ◌∷◌, length, map, take, drop}
 use Rattle.lp_form.specs.declared.part.Part.{Part}
-use Rattle.lp_program.specs.declared.tree.Entry.{Entry}
-use Rattle.lp_program.specs.declared.tree.RowNote.{RowNote}
+use Rattle.lp_tree.specs.declared.tree.Entry.{Entry}
+use Rattle.lp_tree.specs.declared.tree.RowNote.{RowNote}
 
 -- the comments of a table row or of one line: how many entries stand in this row and those before it,
 -- the comment lines before it, and what stands after each entry

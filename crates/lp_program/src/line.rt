@@ -4,9 +4,9 @@ ghost use Rattle.std.specs.Prelude.{◌≡◌, ◌++◌, map, replicate, string_
 ghost use Rattle.lp_form.specs.Templates.{piece};
 ghost use Rattle.lp_program.specs.Lines.{slot_text, line_of};
 
-use crate::piece::Piece;
 use lp_form::Slot;
 use lp_form::template::Piece as LinePart;
+use lp_tree::piece::Piece;
 use std::alloc::{AllocError, Global};
 
 /// So many blanks.

@@ -10,7 +10,7 @@ use lp_program::piece::Piece;
 use lp_program::print::print_program;
 use lp_program::read::{ReadFault, read_program};
 use lp_program::tree::{Node, Program};
-use lp_program::view::{ActionView, FormView};
+use lp_program::view::{ActionView, FormView, root};
 use lp_write::{MemorySink, Options, RustWrite};
 use std::alloc::Global;
 use std::borrow::CowStr;
@@ -170,7 +170,7 @@ fn two_actions(alloc: Global) -> Result<Program<'static>, Fail> {
 /// The codes of a program's actions, one after another.
 fn codes(alloc: Global, program: &Program<'_>) -> Result<String, Fail> {
     let mut all = String::new(alloc);
-    for form in program.root().below() {
+    for form in root(program).below() {
         if let FormView::ActionFn {
             body: ActionView::User { code },
             ..

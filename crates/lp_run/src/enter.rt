@@ -17,7 +17,8 @@ use lp_maker::maker::Maker;
 use lp_maker::methods::Methods;
 use lp_maker::scope::Scope;
 use lp_maker::texts::{Bound, bound_by, plain_name};
-use lp_program::Program;
+use lp_tree::Program;
+use lp_view::root;
 use std::alloc::{AllocError, Global};
 
 /// What the `parse` method of a start does.
@@ -59,7 +60,7 @@ pub fn enter(
 
 // The items of the first module under a public name.
 fn module_of<'p>(program: &'p Program<'_>, start: &str) -> Option<Form<'p>> {
-    for module in program.root().as_part().parts() {
+    for module in root(program).as_part().parts() {
         if module.part() == Part::ParseModule {
             if let Some(items) = items_of(module) {
                 if let Some(parser) = parser_of(items) {
@@ -103,7 +104,7 @@ fn enter_module<'p>(
     let mut maker = Maker::new(alloc, program.prefix());
     let mut located = false;
     let mut actions = Vec::new(alloc);
-    for form in program.root().as_part().parts() {
+    for form in root(program).as_part().parts() {
         match form.part() {
             Part::ToTripleLocated
             | Part::ToTripleLocatedWhere

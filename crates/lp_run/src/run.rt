@@ -3,9 +3,9 @@
 use crate::enter::{Entered, Parser, enter};
 use lp_core::{Atom, Ending, Setting, Value, World, call};
 use lp_driver::{RunError, Stop};
-use lp_program::Program;
 use lp_repr::values::{Event, Outcome, RunItem};
 use lp_repr::{Items, Text};
+use lp_tree::Program;
 use lp_turns::runner::{Runner, result_of};
 use lp_turns::turns::drive;
 use std::alloc::{AllocError, Global};

@@ -3,11 +3,11 @@
 use crate::headers::{add_parameters, shown_each, type_parameters};
 use crate::pieces::{copied, lent, lent_name, made};
 use crate::shared::Shared;
-use lp_program::Node;
-use lp_program::build::{
+use lp_build::{
     FunctionName, header, parse_module, parser, standard_uses, token_source, token_use, use_line,
 };
 use lp_repr::repr::Grammar;
+use lp_tree::Node;
 use std::alloc::{AllocError, Global};
 
 /// Adds the uses of a grammar as a module inside has them, and the standard uses.

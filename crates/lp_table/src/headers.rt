@@ -1,10 +1,10 @@
 //! Headers of functions.
 
 use crate::pieces::{lent, shown};
-use lp_program::build::{FunctionName, header};
-use lp_program::{Node, Piece};
+use lp_build::{FunctionName, header};
 use lp_repr::parse_tree::TypeParameter;
 use lp_repr::repr::Grammar;
+use lp_tree::{Node, Piece};
 use std::alloc::{AllocError, Global};
 use std::fmt::Display;
 

@@ -3,14 +3,14 @@
 use crate::headers::{parameter_text, shown_each};
 use crate::pieces::{copied, copied_unless_empty, lent, lent_name, made, shown, variant_name};
 use crate::shared::Shared;
-use lp_parts::machine_parameters::MachineParameters;
-use lp_parts::texts::MachineTexts;
-use lp_program::build::{
+use lp_build::{
     Field, FunctionName, Reduced, SimulateArm, Variant, accepts, drive, expected_from_states,
     header, machine_impl, machine_struct, simulate_reduce, symbol_enum,
 };
-use lp_program::{Name, Node, Piece};
+use lp_parts::machine_parameters::MachineParameters;
+use lp_parts::texts::MachineTexts;
 use lp_repr::repr::{Grammar, Production};
+use lp_tree::{Name, Node, Piece};
 use std::alloc::{AllocError, Global};
 
 /// The machine's parameters with their texts.

@@ -1,6 +1,6 @@
 //! Texts as pieces of a tree.
 
-use lp_program::{Name, Piece};
+use lp_tree::{Name, Piece};
 use std::alloc::{AllocError, Global};
 use std::borrow::CowStr;
 use std::fmt::Display;

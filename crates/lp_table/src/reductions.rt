@@ -4,12 +4,12 @@ use crate::headers::grammar_header;
 use crate::machine::phantom_parameter;
 use crate::pieces::{copied, copied_unless_empty, lent, made, shown, variant_name};
 use crate::shared::Shared;
-use lp_program::build::{
+use lp_build::{
     FunctionName, Produced, ReduceArm, ReduceCall, pop, reduce, reduce_body, reduce_fn,
 };
-use lp_program::{Name, Node, Piece};
 use lp_repr::numbering::SymbolNumber;
 use lp_repr::repr::{Production, Symbol};
+use lp_tree::{Name, Node, Piece};
 use std::alloc::{AllocError, Global};
 
 /// The production has a function of its own.

@@ -14,10 +14,10 @@ use crate::reductions::{add_pops, add_reduce_functions, reduce_function};
 use crate::shared::{Shared, StartTexts, start_at};
 use crate::tables::{add_action_table, end_table, goto_function, terminal_names};
 use crate::tokens::{token_numbers, token_symbols};
-use lp_program::Node;
-use lp_program::build::{expected, mismatch};
+use lp_build::{expected, mismatch};
 use lp_repr::Lr1State;
 use lp_repr::repr::Grammar;
+use lp_tree::Node;
 use std::alloc::{AllocError, Global};
 
 /// The module of table-driven code for the start of this number, whose states these are.

@@ -5,16 +5,16 @@ ghost use Rattle.lp_parts.specs.Entries.{EntriesFit};
 
 use crate::pieces::{lent_name, made, shown};
 use crate::shared::Shared;
-use lp_parts::comment::Comment;
-use lp_parts::entries::{action_table_entries, end_table_entries};
-use lp_parts::gotos::{self, Gotos, gotos_on};
-use lp_program::build::{
+use lp_build::{
     GotoArm, StateRange, action_lookup, action_table, eof_table, goto_fn, goto_match, goto_one,
     terminal_list,
 };
-use lp_program::{Node, Piece, RowNote};
+use lp_parts::comment::Comment;
+use lp_parts::entries::{action_table_entries, end_table_entries};
+use lp_parts::gotos::{self, Gotos, gotos_on};
 use lp_repr::repr::{Production, TerminalSet, TerminalString};
 use lp_repr::{Lr1State, ShownItem, ShownToken, Token};
+use lp_tree::{Node, Piece, RowNote};
 use std::alloc::{AllocError, Global};
 
 /// Adds the table of actions by state and terminal, and its look-up.

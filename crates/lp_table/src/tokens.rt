@@ -4,9 +4,9 @@ use crate::headers::token_header;
 use crate::machine::phantom_parameter;
 use crate::pieces::{copied, lent, made, variant_name};
 use crate::shared::Shared;
-use lp_program::build::{FunctionName, IntegerArm, symbol_arm, token_to_integer, token_to_symbol};
-use lp_program::{Node, Piece};
+use lp_build::{FunctionName, IntegerArm, symbol_arm, token_to_integer, token_to_symbol};
 use lp_repr::repr::TokenPattern;
+use lp_tree::{Node, Piece};
 use std::alloc::{AllocError, Global};
 use std::collections::BTreeMap;
 

@@ -1,12 +1,12 @@
 //! Actions some of whose symbols are inlined actions: the spans of these, their calls, and the
 //! outer call.
 
+use lp_build::{ActionBody, InlineCall, InlineSpan, OuterCall};
 use lp_parts::texts::{TypeTexts, generic_names};
-use lp_program::Piece;
-use lp_program::build::{ActionBody, InlineCall, InlineSpan, OuterCall};
 use lp_repr::repr::{Grammar, InlinedSymbol, Symbol};
 use lp_table::pieces::{lent, made};
 use lp_table::shared::symbol_type;
+use lp_tree::Piece;
 use std::alloc::{AllocError, Global};
 
 /// How many arguments a symbol stands for.

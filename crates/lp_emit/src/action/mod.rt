@@ -2,13 +2,13 @@
 
 mod inline;
 
+use lp_build::{ActionBody, FunctionName, action_fn};
 use lp_parts::texts::TypeTexts;
-use lp_program::build::{ActionBody, FunctionName, action_fn};
-use lp_program::{Node, Piece};
 use lp_repr::Text;
 use lp_repr::repr::{ActionFnDefn, ActionFnDefnKind, Grammar, LookaroundActionFn, TypeRepr};
 use lp_table::headers::grammar_header;
 use lp_table::pieces::{lent, made, shown};
+use lp_tree::{Node, Piece};
 use std::alloc::{AllocError, Global};
 
 /// The functions of all actions, by number.

@@ -9,12 +9,12 @@ ghost use Rattle.lp_write.specs.Lines.Line.{line};
 ghost use Rattle.lp_write.specs.Writes.{options_of, writing, Writes, write_ending};
 
 use crate::line::line_text;
-use crate::piece::Piece;
 use crate::print::table::print_table;
-use crate::tree::{Entry, RowNote};
-use crate::view::end_of;
 use lp_form::Step;
 use lp_form::template::Piece as LinePart;
+use lp_tree::piece::Piece;
+use lp_tree::tree::{Entry, RowNote};
+use lp_view::end_of;
 use lp_write::{RustWrite, Sink, WriteError};
 use std::alloc::Global;
 

@@ -7,9 +7,9 @@ ghost use Rattle.lp_program.specs.TableRows.{commented, entry_lines, last_lines,
 ghost use Rattle.lp_write.specs.Lines.Line.{line};
 ghost use Rattle.lp_write.specs.Writes.{options_of, writing, Writes, write_ending};
 
-use crate::piece::Piece;
 use crate::print::own::{print_line, print_texts};
-use crate::tree::RowNote;
+use lp_tree::piece::Piece;
+use lp_tree::tree::RowNote;
 use lp_write::{RustWrite, Sink, WriteError};
 use std::alloc::{AllocError, Global};
 

@@ -11,10 +11,10 @@ ghost use Rattle.lp_write.specs.declared.rust.Options.{Options};
 ghost use Rattle.lp_write.specs.Writes.{options_of, writing, Writes, write_ending};
 
 use crate::print::own::print_own;
-use crate::tree::{Entry, Node, Program};
-use crate::view::end_of;
 use lp_form::template::Piece as LinePart;
 use lp_form::{Class, Part, Step, members, steps};
+use lp_tree::tree::{Entry, Node, Program};
+use lp_view::end_of;
 use lp_write::{RustWrite, Sink, WriteError};
 use std::alloc::Global;
 

@@ -7,10 +7,10 @@ ghost use Rattle.lp_form.specs.declared.template.Slot.TheVariants.{Hole};
 ghost use Rattle.lp_form.specs.Templates.{piece};
 ghost use Rattle.lp_program.specs.Lines.{TakesSlot, TakesParts};
 
-use crate::piece::Piece;
 use crate::read::fill::{digit_run, may_fill, own_run, visibility_len, word_run};
 use lp_form::template::Piece as LinePart;
 use lp_form::{Kind, Slot};
+use lp_tree::piece::Piece;
 use std::alloc::{AllocError, Global};
 use std::borrow::CowStr;
 

@@ -2,13 +2,13 @@
 
 ghost use Rattle.std.specs.Prelude.{◌≡◌, ◌<◌, ◌≤◌, length};
 
-use crate::piece::Piece;
 use crate::read::cursor::Cursor;
 use crate::read::line::{Scope, read_line};
 use crate::read::rows::{Table, read_entries};
-use crate::tree::{Entry, Program};
 use lp_form::{Class, Line, Part, Step, holes, members, steps};
 use lp_tok::code_end;
+use lp_tree::piece::Piece;
+use lp_tree::tree::{Entry, Program};
 use std::alloc::{AllocError, Global};
 use std::borrow::CowStr;
 

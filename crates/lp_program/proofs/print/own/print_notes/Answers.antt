@@ -2,7 +2,7 @@ use Rattle.std.proofs.Common.{◌≡◌, ℕ, ◌+◌, ◌<◌, List, ◌++◌, 
 use Rattle.std.proofs.lemmas.List.{at_drop_more}
 use Rattle.std.proofs.lemmas.Result.{err_from_is_err_and}
 use Rattle.lp_write.specs.Lines.Line.{line}
-use Rattle.lp_program.specs.declared.tree.RowNote.{RowNote}
+use Rattle.lp_tree.specs.declared.tree.RowNote.{RowNote}
 use Rattle.lp_program.specs.OwnLines.{note_lines}
 use Rattle.lp_program.specs.Trees.{note}
 use Rattle.lp_program.proofs.Progress.{left-more, left-stopped}

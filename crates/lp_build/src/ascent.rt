@@ -1,0 +1,237 @@
+//! State functions of recursive ascent, and what their trials ask.
+
+ghost use Rattle.std.specs.Prelude.{◌≡◌, [], ◌∷◌, IfOk};
+ghost use Rattle.lp_tree.specs.ProgramTree.{items, leaf};
+
+use super::{add_numbers, add_text, bare, text_row};
+use lp_form::Part;
+use lp_tree::piece::{Name, Piece};
+use lp_tree::tree::{Node, Reduced};
+use std::alloc::{AllocError, Global};
+
+/// Form 34: the call of the first state: the state type, each parameter name and `, `, the phantom
+/// expression, and the escaped name of the start nonterminal.
+pub fn start<'t>(
+    alloc: Global,
+    state_type: Name<'t>,
+    arguments: Piece<'t>,
+    phantom: Piece<'t>,
+    nonterminal: Piece<'t>,
+) -> Result<Node<'t>, AllocError>
+    ensures { IfOk result (λ n. items n ≡ leaf Part.Start (state_type.entry ∷ arguments.entry ∷ phantom.entry ∷ nonterminal.entry ∷ [])) }
+{
+    let holes = vec![in alloc; state_type.into_piece(), arguments, phantom, nonterminal]?;
+    Node::leaf(alloc, Part::Start, holes)
+}
+
+/// A nonterminal that a state function answers: its escaped name, and location, type and location
+/// joined by `, `.
+#[derive(Drop)]
+pub struct ReturnVariant<'t> {
+    pub nonterminal: Piece<'t>,
+    pub contents: Piece<'t>,
+}
+
+/// Form 35: what a state function answers: type parameters and clauses, each joined by `, `, and
+/// the variants.
+pub fn return_enum<'t>(
+    alloc: Global,
+    type_parameters: Piece<'t>,
+    clauses: Option<Piece<'t>>,
+    variants: Vec<ReturnVariant<'t>>,
+) -> Result<Node<'t>, AllocError> {
+    let mut node = text_row(alloc, Part::ReturnEnum, type_parameters)?;
+    add_text(alloc, &mut node, Part::WhereLine, clauses)?;
+    for variant in variants {
+        let ReturnVariant {
+            nonterminal,
+            contents,
+        } = variant;
+        node.add(Node::leaf(
+            alloc,
+            Part::ReturnRow,
+            vec![in alloc; nonterminal, contents]?,
+        )?)?;
+    }
+    Ok(node)
+}
+
+/// Form 36: the function of one state: location, token and location joined by `, `, the type
+/// parameters of the return enum joined by `, `, whether it takes the next token, the fixed slots
+/// that it makes optional, and its comment lines. Below it: the header, shifts, reductions, the
+/// error arm, and the gotos where a frame may go on.
+pub fn state_fn<'t>(
+    alloc: Global,
+    triple: Piece<'t>,
+    type_parameters: Piece<'t>,
+    next_token: bool,
+    made_optional: &[u64],
+    notes: Vec<Piece<'t>>,
+    below: Vec<Node<'t>>,
+) -> Result<Node<'t>, AllocError> {
+    let mut node = Node::leaf(
+        alloc,
+        Part::StateFn,
+        vec![in alloc; triple, type_parameters]?,
+    )?;
+    node.note(alloc, notes)?;
+    let mut rest = bare(alloc, Part::StateFn)?;
+    for child in below {
+        if child.is(Part::HeaderState) {
+            node.add(child)?;
+        } else {
+            rest.add(child)?;
+        }
+    }
+    if next_token {
+        node.add(bare(alloc, Part::NextToken)?)?;
+    }
+    add_numbers(alloc, &mut node, Part::SlotLine, made_optional)?;
+    node.add_below(rest)?;
+    Ok(node)
+}
+
+/// Form 37: a shift: the pattern, the number of the symbol, and the names of the captures joined by
+/// `, `. With captures the pattern has the names in its holes. Below it: the transition.
+pub fn shift_arm<'t>(
+    alloc: Global,
+    pattern: Piece<'t>,
+    symbol: u64,
+    names: Option<Piece<'t>>,
+    below: Vec<Node<'t>>,
+) -> Result<Node<'t>, AllocError> {
+    let symbol = Piece::number(alloc, symbol)?;
+    let mut node = match names {
+        Some(names) => {
+            Node::leaf(
+                alloc,
+                Part::ShiftArm,
+                vec![in alloc; pattern, symbol, names]?,
+            )?
+        }
+        None => Node::leaf(alloc, Part::ShiftWhole, vec![in alloc; pattern, symbol]?)?,
+    };
+    node.add_all(below)?;
+    Ok(node)
+}
+
+/// Where the location of an error at the end of input comes from.
+#[derive(Drop)]
+pub enum ErrorLocation {
+    /// The end of a fixed slot.
+    Fixed { slot: u64 },
+    /// The default location.
+    Default,
+    /// The end of the first of these slots that is full, from the top down, else the default.
+    Chain { slots: Vec<u64> },
+}
+
+/// Form 39: a token without an action: where the location comes from.
+pub fn error_arm<'t>(alloc: Global, location: ErrorLocation) -> Result<Node<'t>, AllocError> {
+    let mut node = bare(alloc, Part::ErrorArm)?;
+    let lines = match location {
+        ErrorLocation::Fixed { slot } => {
+            text_row(alloc, Part::LocationFixed, Piece::number(alloc, slot)?)?
+        }
+        ErrorLocation::Default => bare(alloc, Part::LocationDefault)?,
+        ErrorLocation::Chain { slots } => {
+            let mut chain = bare(alloc, Part::LocationChain)?;
+            add_numbers(alloc, &mut chain, Part::LocationRow, slots.as_slice())?;
+            chain
+        }
+    };
+    node.add(lines)?;
+    Ok(node)
+}
+
+/// A goto of a frame: the escaped name of the nonterminal, and the number of the symbol. Its
+/// transition is the next of the nodes below.
+#[derive(Drop)]
+pub struct GotoLoopArm<'t> {
+    pub nonterminal: Piece<'t>,
+    pub symbol: u64,
+}
+
+/// Form 41: the gotos of a frame: the top slot where it is optional, the arms, and whether a
+/// nonterminal has no goto. Without arms the frame answers the result. Below it: per arm the
+/// transition.
+pub fn goto_loop<'t>(
+    alloc: Global,
+    optional_top: Option<u64>,
+    arms: Vec<GotoLoopArm<'t>>,
+    other: bool,
+    below: Vec<Node<'t>>,
+) -> Result<Node<'t>, AllocError> {
+    if arms.is_empty() {
+        return bare(alloc, Part::GotoReturn);
+    }
+    let mut node = bare(alloc, Part::GotoLoop)?;
+    match optional_top {
+        Some(slot) => {
+            node.add(text_row(alloc, Part::EmptyCheck, Piece::number(alloc, slot)?)?)?;
+        }
+        None => {}
+    }
+    let mut transitions = below;
+    transitions.reverse();
+    for arm in arms {
+        let GotoLoopArm {
+            nonterminal,
+            symbol,
+        } = arm;
+        let symbol = Piece::number(alloc, symbol)?;
+        let mut row = Node::leaf(alloc, Part::GotoArm, vec![in alloc; nonterminal, symbol]?)?;
+        match transitions.pop() {
+            Some(transition) => row.add(transition)?,
+            None => {}
+        }
+        node.add(row)?;
+    }
+    if other {
+        node.add(bare(alloc, Part::GotoOther)?)?;
+    }
+    Ok(node)
+}
+
+/// A production of a trial; the start's reduces nothing.
+#[derive(Clone, Copy)]
+pub struct TrialArm {
+    pub production: u64,
+    pub reduced: Option<Reduced>,
+}
+
+/// Form 45: what a reduction of a trial pops and produces: the state type, and per production.
+pub fn ascent_simulate<'t>(
+    alloc: Global,
+    state_type: Name<'t>,
+    arms: &[TrialArm],
+) -> Result<Node<'t>, AllocError> {
+    let mut node = text_row(alloc, Part::AscentSimulate, state_type.into_piece())?;
+    for arm in arms {
+        let production = Piece::number(alloc, arm.production)?;
+        match arm.reduced {
+            None => node.add(text_row(alloc, Part::AscentAccept, production)?)?,
+            Some(reduced) => {
+                let pop = Piece::number(alloc, reduced.pop)?;
+                let nonterminal = Piece::number(alloc, reduced.nonterminal)?;
+                let holes = vec![in alloc; production, pop, nonterminal]?;
+                node.add(Node::leaf(alloc, Part::AscentArm, holes)?)?;
+            }
+        }
+    }
+    Ok(node)
+}
+
+/// Form 46: whether a stack of states accepts a terminal.
+pub fn ascent_accepts<'t>(alloc: Global, state_type: Name<'t>) -> Result<Node<'t>, AllocError>
+    ensures { IfOk result (λ n. items n ≡ leaf Part.AscentAccepts (state_type.entry ∷ [])) }
+{
+    text_row(alloc, Part::AscentAccepts, state_type.into_piece())
+}
+
+/// Form 47: the terminals that a stack of states accepts.
+pub fn ascent_expected<'t>(alloc: Global, state_type: Name<'t>) -> Result<Node<'t>, AllocError>
+    ensures { IfOk result (λ n. items n ≡ leaf Part.AscentExpected (state_type.entry ∷ [])) }
+{
+    text_row(alloc, Part::AscentExpected, state_type.into_piece())
+}

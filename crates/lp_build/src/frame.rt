@@ -1,0 +1,210 @@
+//! The forms around the modules.
+
+ghost use Rattle.std.specs.Prelude.{◌≡◌, [], ◌∷◌, IfOk, if◌then◌else◌};
+ghost use Rattle.lp_tree.specs.ProgramTree.{items, leaf};
+
+use super::{add_text, bare, text_row};
+use lp_form::Part;
+use lp_tree::piece::{Name, Piece};
+use lp_tree::tree::{Node, Program};
+use std::alloc::{AllocError, Global};
+
+/// Form 1: the whole text. `~` stands for the prefix in all of it. Below it: attributes, uses, the
+/// standard uses, per start its module and re-export, for an interned grammar the token module, the
+/// action functions, and `to_triple`.
+pub fn program<'t>(
+    alloc: Global,
+    prefix: Piece<'t>,
+    below: Vec<Node<'t>>,
+) -> Result<Program<'t>, AllocError> {
+    let mut node = bare(alloc, Part::Program)?;
+    node.add_all(below)?;
+    let Node { entries } = node;
+    Ok(Program { prefix, entries })
+}
+
+/// Form 2: an attribute of the whole text, from `#![` to `]`.
+pub fn attribute<'t>(alloc: Global, text: Piece<'t>) -> Result<Node<'t>, AllocError>
+    ensures { IfOk result (λ n. items n ≡ leaf Part.Attribute (text.entry ∷ [])) }
+{
+    text_row(alloc, Part::Attribute, text)
+}
+
+/// Form 3: a use, as it is printed between `use ` and `;`.
+pub fn use_line<'t>(alloc: Global, text: Piece<'t>) -> Result<Node<'t>, AllocError>
+    ensures { IfOk result (λ n. items n ≡ leaf Part.UseLine (text.entry ∷ [])) }
+{
+    text_row(alloc, Part::UseLine, text)
+}
+
+/// Form 4: the uses that each module has.
+pub fn standard_uses<'t>(alloc: Global) -> Result<Node<'t>, AllocError>
+    ensures { IfOk result (λ n. items n ≡ leaf Part.StandardUses []) }
+{
+    bare(alloc, Part::StandardUses)
+}
+
+/// Form 5: the module of a start nonterminal. Below it: uses, the standard uses, the token use, and
+/// the items of table-driven code or of recursive ascent.
+pub fn parse_module<'t>(
+    alloc: Global,
+    start: Name<'t>,
+    below: Vec<Node<'t>>,
+) -> Result<Node<'t>, AllocError> {
+    let mut module = text_row(alloc, Part::ParseModule, start.into_piece())?;
+    let mut items: Option<Node<'t>> = None;
+    for child in below {
+        match items {
+            Some(mut rest) => {
+                rest.add(child)?;
+                items = Some(rest);
+            }
+            None => {
+                if is_before_items(&child) {
+                    module.add(child)?;
+                } else {
+                    items = Some(items_with(alloc, child)?);
+                }
+            }
+        }
+    }
+    match items {
+        Some(items) => module.add(items)?,
+        None => {}
+    }
+    Ok(module)
+}
+
+/// A use, the standard uses or the token use.
+fn is_before_items(node: &Node<'_>) -> bool {
+    node.is(Part::UseLine)
+        || node.is(Part::StandardUses)
+        || node.is(Part::TokenUseInterned)
+        || node.is(Part::TokenUsePlain)
+}
+
+/// The items of a module that begin with this one.
+fn items_with<'t>(alloc: Global, first: Node<'t>) -> Result<Node<'t>, AllocError> {
+    let part = if first.is(Part::SymbolEnum) {
+        Part::TableItems
+    } else {
+        Part::AscentItems
+    };
+    let mut items = bare(alloc, part)?;
+    items.add(first)?;
+    Ok(items)
+}
+
+/// Form 6: where the token type, or the trait of the tokens, comes from.
+pub fn token_use<'t>(alloc: Global, interned: bool) -> Result<Node<'t>, AllocError>
+    ensures { IfOk result (λ n. items n ≡ leaf (if interned then Part.TokenUseInterned else Part.TokenUsePlain) []) }
+{
+    if interned {
+        bare(alloc, Part::TokenUseInterned)
+    } else {
+        bare(alloc, Part::TokenUsePlain)
+    }
+}
+
+/// Form 7: a parser under its public name: the visibility of its rule, the start nonterminal, the
+/// public name.
+pub fn reexport<'t>(
+    alloc: Global,
+    visibility: Piece<'t>,
+    start: Name<'t>,
+    public_name: Name<'t>,
+) -> Result<Node<'t>, AllocError>
+    ensures { IfOk result (λ n. items n ≡ leaf Part.Reexport (visibility.entry ∷ start.entry ∷ public_name.entry ∷ [])) }
+{
+    Node::leaf(
+        alloc,
+        Part::Reexport,
+        vec![in alloc; visibility, start.into_piece(), public_name.into_piece()]?,
+    )
+}
+
+/// A regular expression of the tokens, as a string literal, and whether its matches are skipped.
+#[derive(Drop)]
+pub struct InternEntry<'t> {
+    pub literal: Piece<'t>,
+    pub skip: bool,
+}
+
+/// Form 43: the tokens of an interned grammar. White space is skipped where no entry is. Below it:
+/// uses and the standard uses.
+pub fn token_module<'t>(
+    alloc: Global,
+    entries: Vec<InternEntry<'t>>,
+    below: Vec<Node<'t>>,
+) -> Result<Node<'t>, AllocError> {
+    let mut node = bare(alloc, Part::TokenModule)?;
+    node.add_all(below)?;
+    let mut skips = false;
+    for entry in entries {
+        let InternEntry { literal, skip } = entry;
+        let part = if skip {
+            Part::InternSkip
+        } else {
+            Part::InternKeep
+        };
+        skips = skips || skip;
+        node.add(text_row(alloc, part, literal)?)?;
+    }
+    if !skips {
+        node.add(bare(alloc, Part::WhitespaceRow)?)?;
+    }
+    Ok(node)
+}
+
+/// What the two implementations of `to_triple` are for.
+#[derive(Drop)]
+pub enum Triples<'t> {
+    /// With a location type: location, token and location joined by `, `, and the error type.
+    Located { triple: Piece<'t>, error: Piece<'t> },
+    /// Without one: the token and the error type.
+    Plain { token: Piece<'t>, error: Piece<'t> },
+}
+
+/// Form 44: how items become triples: a visibility, each type parameter and `, `, the clauses joined
+/// by `,`, location, token and location joined by `,`, location, token and error joined by `, `, and
+/// the implementations.
+pub fn to_triple<'t>(
+    alloc: Global,
+    visibility: Piece<'t>,
+    type_parameters: Piece<'t>,
+    clauses: Option<Piece<'t>>,
+    triple: Piece<'t>,
+    parse_error: Piece<'t>,
+    implementations: Triples<'t>,
+) -> Result<Node<'t>, AllocError> {
+    let has_clauses = clauses.is_some();
+    let mut holes = vec![in alloc; visibility, type_parameters]?;
+    match clauses {
+        Some(clauses) => holes.push(clauses)?,
+        None => {}
+    }
+    holes.push(triple)?;
+    holes.push(parse_error)?;
+    match implementations {
+        Triples::Located { triple, error } => {
+            holes.push(triple)?;
+            holes.push(error)?;
+            let part = if has_clauses {
+                Part::ToTripleLocatedWhere
+            } else {
+                Part::ToTripleLocated
+            };
+            Node::leaf(alloc, part, holes)
+        }
+        Triples::Plain { token, error } => {
+            holes.push(token)?;
+            holes.push(error)?;
+            let part = if has_clauses {
+                Part::ToTriplePlainWhere
+            } else {
+                Part::ToTriplePlain
+            };
+            Node::leaf(alloc, part, holes)
+        }
+    }
+}

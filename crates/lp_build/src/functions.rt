@@ -1,0 +1,119 @@
+//! Function headers, and parsers with their `parse` method.
+
+ghost use Rattle.std.specs.Prelude.{◌≡◌, [], IfOk, if◌then◌else◌};
+ghost use Rattle.lp_tree.specs.ProgramTree.{items, leaf};
+
+use super::{add_texts, bare, text_row};
+use lp_form::Part;
+use lp_tree::piece::{Name, Piece};
+use lp_tree::tree::Node;
+use std::alloc::{AllocError, Global};
+
+/// The name of a printed function that has a header. All but `parse` are private, and have the
+/// prefix in front.
+#[derive(Drop)]
+pub enum FunctionName<'t> {
+    /// `parse`, with the visibility of its rule.
+    Parse { visibility: Piece<'t> },
+    ExpectedTokensFromStates,
+    TokenToInteger,
+    TokenToSymbol,
+    SimulateReduce,
+    Accepts,
+    Reduce,
+    /// `reduce` and the number of a production.
+    ReduceProduction(u64),
+    /// `state` and the number of a state.
+    State(u64),
+    /// `action` and the number of an action.
+    Action(u64),
+}
+
+/// The line that begins a header.
+fn header_line<'t>(alloc: Global, name: FunctionName<'t>) -> Result<Node<'t>, AllocError> {
+    match name {
+        FunctionName::Parse { visibility } => text_row(alloc, Part::HeaderParse, visibility),
+        FunctionName::ExpectedTokensFromStates => bare(alloc, Part::HeaderExpectedFromStates),
+        FunctionName::TokenToInteger => bare(alloc, Part::HeaderTokenToInteger),
+        FunctionName::TokenToSymbol => bare(alloc, Part::HeaderTokenToSymbol),
+        FunctionName::SimulateReduce => bare(alloc, Part::HeaderSimulateReduce),
+        FunctionName::Accepts => bare(alloc, Part::HeaderAccepts),
+        FunctionName::Reduce => bare(alloc, Part::HeaderReduce),
+        FunctionName::ReduceProduction(number) => {
+            text_row(alloc, Part::HeaderReduceFn, Piece::number(alloc, number)?)
+        }
+        FunctionName::State(number) => {
+            text_row(alloc, Part::HeaderState, Piece::number(alloc, number)?)
+        }
+        FunctionName::Action(number) => {
+            text_row(alloc, Part::HeaderAction, Piece::number(alloc, number)?)
+        }
+    }
+}
+
+/// Form 8: the header of a function: its name, type parameters, parameters, result and where
+/// clauses. Each text stands as it is printed; a result `()` prints none.
+pub fn header<'t>(
+    alloc: Global,
+    name: FunctionName<'t>,
+    type_parameters: Vec<Piece<'t>>,
+    parameters: Vec<Piece<'t>>,
+    answer: Piece<'t>,
+    clauses: Vec<Piece<'t>>,
+) -> Result<Node<'t>, AllocError> {
+    let mut node = header_line(alloc, name)?;
+    add_texts(alloc, &mut node, Part::TypeRow, type_parameters)?;
+    add_texts(alloc, &mut node, Part::ParameterRow, parameters)?;
+    if answer.as_str() == "()" {
+        node.add(bare(alloc, Part::ResultUnit)?)?;
+    } else {
+        node.add(text_row(alloc, Part::ResultType, answer)?)?;
+    }
+    if !clauses.is_empty() {
+        let mut list = bare(alloc, Part::Clauses)?;
+        add_texts(alloc, &mut list, Part::ClauseRow, clauses)?;
+        node.add(list)?;
+    }
+    Ok(node)
+}
+
+/// Form 9: a parser: the visibility of its rule, its public name, and whether the grammar is
+/// interned. Below it: the header of `parse`, the token source, and `drive` or `start`.
+pub fn parser<'t>(
+    alloc: Global,
+    visibility: Piece<'t>,
+    public_name: Name<'t>,
+    interned: bool,
+    below: Vec<Node<'t>>,
+) -> Result<Node<'t>, AllocError> {
+    let mut ascent = false;
+    for child in &below {
+        if child.is(Part::Start) {
+            ascent = true;
+        }
+    }
+    let part = match (ascent, interned) {
+        (false, true) => Part::TableParserInterned,
+        (false, false) => Part::TableParserPlain,
+        (true, true) => Part::AscentParserInterned,
+        (true, false) => Part::AscentParserPlain,
+    };
+    let mut node = Node::leaf(
+        alloc,
+        part,
+        vec![in alloc; visibility, public_name.into_piece()]?,
+    )?;
+    node.add_all(below)?;
+    Ok(node)
+}
+
+/// Form 10: where the tokens come from.
+pub fn token_source<'t>(alloc: Global, interned: bool) -> Result<Node<'t>, AllocError>
+    ensures { IfOk result (λ n. items n ≡ leaf (if interned then Part.TokenSourceInterned else Part.TokenSourcePlain) []) }
+{
+    if interned {
+        bare(alloc, Part::TokenSourceInterned)
+    } else {
+        bare(alloc, Part::TokenSourcePlain)
+    }
+}

@@ -1,0 +1,109 @@
+//! One constructor per form, named as the form. Each takes the form's own holes and choices in the
+//! order in which the text first shows them, then its notes, then the nodes below it.
+#![tactic(auto)]
+
+mod action;
+mod ascent;
+mod ascent_reduce;
+mod frame;
+mod functions;
+mod machine;
+mod reductions;
+mod table;
+
+ghost use Rattle.std.specs.Prelude.{◌≡◌, [], ◌∷◌, IfOk};
+ghost use Rattle.lp_tree.specs.ProgramTree.{items, leaf};
+
+pub use action::{ActionBody, InlineCall, InlineSpan, OuterCall, action_fn};
+pub use ascent::{
+    ErrorLocation, GotoLoopArm, ReturnVariant, TrialArm, ascent_accepts, ascent_expected,
+    ascent_simulate, error_arm, goto_loop, return_enum, shift_arm, start, state_fn,
+};
+pub use ascent_reduce::{AscentSpan, Reduction, reduce_arm, transition};
+pub use frame::{
+    InternEntry, Triples, attribute, parse_module, program, reexport, standard_uses, to_triple,
+    token_module, token_use, use_line,
+};
+pub use functions::{FunctionName, header, parser, token_source};
+use lp_form::Part;
+use lp_tree::piece::{Name, Piece};
+use lp_tree::tree::Node;
+pub use lp_tree::tree::Reduced;
+pub use machine::{
+    Field, SimulateArm, accepts, drive, machine_impl, machine_struct, simulate_reduce,
+};
+pub use reductions::{
+    Produced, ReduceArm, ReduceCall, mismatch, pop, reduce, reduce_body, reduce_fn,
+};
+use std::alloc::{AllocError, Global};
+pub use table::{
+    GotoArm, IntegerArm, StateRange, Variant, action_lookup, action_table, eof_table, expected,
+    expected_from_states, goto_fn, goto_match, goto_one, symbol_arm, symbol_enum, terminal_list,
+    token_to_integer, token_to_symbol,
+};
+
+/// A part of one text.
+fn text_row<'t>(alloc: Global, part: Part, text: Piece<'t>) -> Result<Node<'t>, AllocError>
+    ensures { IfOk result (λ n. items n ≡ leaf part (text.entry ∷ [])) }
+{
+    Node::leaf(alloc, part, vec![in alloc; text]?)
+}
+
+/// Puts a row of one text below the node for each text.
+fn add_texts<'t>(
+    alloc: Global,
+    node: &mut Node<'t>,
+    part: Part,
+    texts: Vec<Piece<'t>>,
+) -> Result<(), AllocError> {
+    for text in texts {
+        node.add(text_row(alloc, part, text)?)?;
+    }
+    Ok(())
+}
+
+/// Puts a row of one name below the node for each name.
+fn add_names<'t>(
+    alloc: Global,
+    node: &mut Node<'t>,
+    part: Part,
+    names: Vec<Name<'t>>,
+) -> Result<(), AllocError> {
+    for name in names {
+        node.add(text_row(alloc, part, name.into_piece())?)?;
+    }
+    Ok(())
+}
+
+/// Puts a row of one number below the node for each number.
+fn add_numbers<'t>(
+    alloc: Global,
+    node: &mut Node<'t>,
+    part: Part,
+    numbers: &[u64],
+) -> Result<(), AllocError> {
+    for number in numbers {
+        node.add(text_row(alloc, part, Piece::number(alloc, *number)?)?)?;
+    }
+    Ok(())
+}
+
+/// A part with nothing in it.
+fn bare<'t>(alloc: Global, part: Part) -> Result<Node<'t>, AllocError>
+    ensures { IfOk result (λ n. items n ≡ leaf part []) }
+{
+    Node::leaf(alloc, part, Vec::new(alloc))
+}
+
+/// Puts the text below the node as a part of its own, where there is one.
+fn add_text<'t>(
+    alloc: Global,
+    node: &mut Node<'t>,
+    part: Part,
+    text: Option<Piece<'t>>,
+) -> Result<(), AllocError> {
+    match text {
+        None => Ok(()),
+        Some(text) => node.add(text_row(alloc, part, text)?),
+    }
+}

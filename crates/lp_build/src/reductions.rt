@@ -1,0 +1,203 @@
+//! Reductions of the table-driven code.
+
+ghost use Rattle.std.specs.Prelude.{◌≡◌, [], IfOk};
+ghost use Rattle.lp_tree.specs.ProgramTree.{items, leaf};
+
+use super::{add_text, add_texts, bare, text_row};
+use lp_form::Part;
+use lp_tree::piece::{Name, Piece};
+use lp_tree::tree::Node;
+use std::alloc::{AllocError, Global};
+
+/// The call of a production's own function: each parameter name and `, `, and the phantom
+/// expression.
+#[derive(Drop)]
+pub struct ReduceCall<'t> {
+    pub arguments: Piece<'t>,
+    pub phantom: Piece<'t>,
+}
+
+/// A production of `reduce`. Without a call its body is the next of the nodes below.
+#[derive(Drop)]
+pub struct ReduceArm<'t> {
+    pub production: u64,
+    pub call: Option<ReduceCall<'t>>,
+}
+
+/// Puts an arm below the node, with the next body where it has no call.
+fn add_arm<'t>(
+    alloc: Global,
+    node: &mut Node<'t>,
+    arm: ReduceArm<'t>,
+    bodies: &mut Vec<Node<'t>>,
+) -> Result<(), AllocError> {
+    let ReduceArm { production, call } = arm;
+    let production = Piece::number(alloc, production)?;
+    match call {
+        Some(call) => {
+            let ReduceCall { arguments, phantom } = call;
+            let holes = vec![in alloc; production, arguments, phantom]?;
+            node.add(Node::leaf(alloc, Part::ReduceCallArm, holes)?)
+        }
+        None => {
+            let mut row = text_row(alloc, Part::ReduceBodyArm, production)?;
+            match bodies.pop() {
+                Some(body) => row.add(body)?,
+                None => {}
+            }
+            node.add(row)
+        }
+    }
+}
+
+/// Form 29: the reductions by production. Below it: the header, and in order the bodies of the arms
+/// without a call.
+pub fn reduce<'t>(
+    alloc: Global,
+    arms: Vec<ReduceArm<'t>>,
+    below: Vec<Node<'t>>,
+) -> Result<Node<'t>, AllocError> {
+    let mut node = bare(alloc, Part::Reduce)?;
+    let mut bodies = Vec::new(alloc);
+    for child in below {
+        if child.is(Part::ReduceBody) {
+            bodies.push(child)?;
+        } else {
+            node.add(child)?;
+        }
+    }
+    bodies.reverse();
+    for arm in arms {
+        add_arm(alloc, &mut node, arm, &mut bodies)?;
+    }
+    while let Some(body) = bodies.pop() {
+        node.add(body)?;
+    }
+    Ok(node)
+}
+
+/// What a reduction pushes: the variant of its nonterminal, and the nonterminal's number.
+#[derive(Drop)]
+pub struct Produced<'t> {
+    pub variant: Name<'t>,
+    pub nonterminal: u64,
+}
+
+/// Puts the lines below the node that pop the symbols, the last one first.
+fn add_pops<'t>(
+    alloc: Global,
+    node: &mut Node<'t>,
+    variants: Vec<Name<'t>>,
+) -> Result<(), AllocError> {
+    let mut variants = variants;
+    if variants.len() > 1 {
+        let count = Piece::number(alloc, variants.len() as u64)?;
+        node.add(text_row(alloc, Part::AssertLine, count)?)?;
+    }
+    while let Some(variant) = variants.pop() {
+        let number = Piece::number(alloc, variants.len() as u64)?;
+        let holes = vec![in alloc; number, variant.into_piece()]?;
+        node.add(Node::leaf(alloc, Part::PopLine, holes)?)?;
+    }
+    Ok(())
+}
+
+/// The lines that find the span of so many symbols.
+fn span_lines<'t>(alloc: Global, symbols: usize) -> Result<Node<'t>, AllocError> {
+    if symbols == 0 {
+        return bare(alloc, Part::SpanEmpty);
+    }
+    let first = Piece::number(alloc, 0)?;
+    let last = Piece::number(alloc, (symbols - 1) as u64)?;
+    Node::leaf(alloc, Part::SpanPopped, vec![in alloc; first, last]?)
+}
+
+/// The lines that push what was produced, or answer it.
+fn outcome_lines<'t>(
+    alloc: Global,
+    symbols: usize,
+    produced: Option<Produced<'t>>,
+) -> Result<Node<'t>, AllocError> {
+    match produced {
+        None => bare(alloc, Part::OutcomeStart),
+        Some(produced) => {
+            let Produced {
+                variant,
+                nonterminal,
+            } = produced;
+            let count = Piece::number(alloc, symbols as u64)?;
+            let nonterminal = Piece::number(alloc, nonterminal)?;
+            let holes = vec![in alloc; variant.into_piece(), count, nonterminal]?;
+            Node::leaf(alloc, Part::OutcomePush, holes)
+        }
+    }
+}
+
+/// Form 30: the reduction of one production: the variants of its symbols, its action, the type
+/// arguments joined by `, `, the arguments joined by `, ` (parameter names, then the symbols or
+/// `&~start, &~end`), whether the action is fallible, what is pushed (the start pushes nothing), and
+/// the comment line.
+pub fn reduce_body<'t>(
+    alloc: Global,
+    variants: Vec<Name<'t>>,
+    action: u64,
+    type_arguments: Piece<'t>,
+    arguments: Piece<'t>,
+    fallible: bool,
+    produced: Option<Produced<'t>>,
+    note: Option<Piece<'t>>,
+) -> Result<Node<'t>, AllocError> {
+    let symbols = variants.len();
+    let mut node = bare(alloc, Part::ReduceBody)?;
+    match note {
+        Some(note) => node.note(alloc, vec![in alloc; note]?)?,
+        None => {}
+    }
+    add_pops(alloc, &mut node, variants)?;
+    node.add(span_lines(alloc, symbols)?)?;
+    let part = if fallible {
+        Part::CallFallible
+    } else {
+        Part::CallPlain
+    };
+    let action = Piece::number(alloc, action)?;
+    node.add(Node::leaf(
+        alloc,
+        part,
+        vec![in alloc; action, type_arguments, arguments]?,
+    )?)?;
+    node.add(outcome_lines(alloc, symbols, produced)?)?;
+    Ok(node)
+}
+
+/// Form 31: a symbol of another variant.
+pub fn mismatch<'t>(alloc: Global) -> Result<Node<'t>, AllocError>
+    ensures { IfOk result (λ n. items n ≡ leaf Part.Mismatch []) }
+{
+    bare(alloc, Part::Mismatch)
+}
+
+/// Form 32: takes a symbol of one variant: the variant, the type parameters, the location type, the
+/// type parameters joined by `, `, the variant's type, and clauses joined by `, `.
+pub fn pop<'t>(
+    alloc: Global,
+    variant: Name<'t>,
+    type_parameters: Vec<Piece<'t>>,
+    location: Piece<'t>,
+    symbol_parameters: Piece<'t>,
+    ty: Piece<'t>,
+    clauses: Option<Piece<'t>>,
+) -> Result<Node<'t>, AllocError> {
+    let holes = vec![in alloc; variant.into_piece(), location, symbol_parameters, ty]?;
+    let mut node = Node::leaf(alloc, Part::Pop, holes)?;
+    add_texts(alloc, &mut node, Part::PopRow, type_parameters)?;
+    add_text(alloc, &mut node, Part::WhereLine, clauses)?;
+    Ok(node)
+}
+
+/// Form 33: the function of one production. Below it: the header and the body.
+pub fn reduce_fn<'t>(alloc: Global, below: Vec<Node<'t>>) -> Result<Node<'t>, AllocError> {
+    let mut node = bare(alloc, Part::ReduceFn)?;
+    node.add_all(below)?;
+    Ok(node)
+}

@@ -1,0 +1,281 @@
+//! Tables, and what looks them up.
+
+ghost use Rattle.std.specs.Prelude.{◌≡◌, [], ◌∷◌, IfOk};
+ghost use Rattle.std.specs.Fmt.{decimal};
+ghost use Rattle.lp_tree.specs.ProgramTree.{items, leaf};
+
+use super::{add_text, add_texts, bare, text_row};
+use lp_form::Part;
+use lp_tree::piece::{Name, Piece};
+use lp_tree::tree::{Node, RowNote};
+use std::alloc::{AllocError, Global};
+
+/// A variant of the symbol enum.
+#[derive(Drop)]
+pub struct Variant<'t> {
+    pub name: Name<'t>,
+    pub ty: Piece<'t>,
+}
+
+/// Form 11: the values of symbols: type parameters joined by `, `, clauses joined by `, `, variants.
+pub fn symbol_enum<'t>(
+    alloc: Global,
+    type_parameters: Piece<'t>,
+    clauses: Option<Piece<'t>>,
+    variants: Vec<Variant<'t>>,
+) -> Result<Node<'t>, AllocError> {
+    let mut node = text_row(alloc, Part::SymbolEnum, type_parameters)?;
+    add_text(alloc, &mut node, Part::WhereLine, clauses)?;
+    for variant in variants {
+        let Variant { name, ty } = variant;
+        node.add(Node::leaf(
+            alloc,
+            Part::VariantRow,
+            vec![in alloc; name.into_piece(), ty]?,
+        )?)?;
+    }
+    Ok(node)
+}
+
+/// A table of one form.
+fn table<'t>(
+    alloc: Global,
+    part: Part,
+    state_type: Name<'t>,
+    entries: Vec<i32>,
+    notes: Vec<RowNote<'t>>,
+) -> Result<Node<'t>, AllocError> {
+    let mut node = text_row(alloc, part, state_type.into_piece())?;
+    node.fill(entries, notes);
+    Ok(node)
+}
+
+/// Form 12: the actions by state and terminal: the state type, the entries of all rows, and per row
+/// its note.
+pub fn action_table<'t>(
+    alloc: Global,
+    state_type: Name<'t>,
+    entries: Vec<i32>,
+    notes: Vec<RowNote<'t>>,
+) -> Result<Node<'t>, AllocError> {
+    table(alloc, Part::ActionTable, state_type, entries, notes)
+}
+
+/// Form 13: the action of a state on a terminal, with so many terminals.
+pub fn action_lookup<'t>(
+    alloc: Global,
+    state_type: Name<'t>,
+    terminals: u64,
+) -> Result<Node<'t>, AllocError> {
+    let state_type = state_type.into_piece();
+    if terminals == 1 {
+        return text_row(alloc, Part::ActionLookupOne, state_type);
+    }
+    let terminals = Piece::number(alloc, terminals)?;
+    Node::leaf(
+        alloc,
+        Part::ActionLookup,
+        vec![in alloc; state_type, terminals]?,
+    )
+}
+
+/// Form 14: the actions by state at the end of input, as the table of actions.
+pub fn eof_table<'t>(
+    alloc: Global,
+    state_type: Name<'t>,
+    entries: Vec<i32>,
+    notes: Vec<RowNote<'t>>,
+) -> Result<Node<'t>, AllocError> {
+    table(alloc, Part::EofTable, state_type, entries, notes)
+}
+
+/// Form 15: the goto function. Below it: per nonterminal with gotos its arm.
+pub fn goto_fn<'t>(
+    alloc: Global,
+    state_type: Name<'t>,
+    below: Vec<Node<'t>>,
+) -> Result<Node<'t>, AllocError> {
+    let mut node = text_row(alloc, Part::GotoFn, state_type.into_piece())?;
+    node.add_all(below)?;
+    Ok(node)
+}
+
+/// Form 16: a nonterminal whose gotos have one target.
+pub fn goto_one<'t>(alloc: Global, nonterminal: u64, target: u64) -> Result<Node<'t>, AllocError>
+    ensures { IfOk result (λ n. items n ≡ leaf Part.GotoOne (decimal nonterminal ∷ decimal target ∷ [])) }
+{
+    let nonterminal = Piece::number(alloc, nonterminal)?;
+    let target = Piece::number(alloc, target)?;
+    Node::leaf(alloc, Part::GotoOne, vec![in alloc; nonterminal, target]?)
+}
+
+/// The states from the first to the last.
+#[derive(Clone, Copy)]
+pub struct StateRange {
+    pub first: u64,
+    pub last: u64,
+}
+
+/// The states that go to one target, and the comment line before them.
+#[derive(Drop)]
+pub struct GotoArm<'t> {
+    pub states: Vec<StateRange>,
+    pub target: u64,
+    pub note: Option<Piece<'t>>,
+}
+
+/// The ranges joined by ` | `.
+fn joined_ranges<'t>(alloc: Global, ranges: &[StateRange]) -> Result<Piece<'t>, AllocError> {
+    let mut text = String::new(alloc);
+    for (i, range) in ranges.iter().enumerate() {
+        if i > 0 {
+            text.push_str(" | ")?;
+        }
+        let first = Piece::number(alloc, range.first)?;
+        text.push_str(first.as_str())?;
+        if range.first != range.last {
+            let last = Piece::number(alloc, range.last)?;
+            text.push_str("..=")?;
+            text.push_str(last.as_str())?;
+        }
+    }
+    Ok(Piece::new(std::borrow::CowStr::Owned(text)))
+}
+
+/// One arm of a nonterminal with several targets.
+fn goto_range<'t>(alloc: Global, arm: GotoArm<'t>) -> Result<Node<'t>, AllocError> {
+    let GotoArm {
+        states,
+        target,
+        note,
+    } = arm;
+    let states = joined_ranges(alloc, states.as_slice())?;
+    let target = Piece::number(alloc, target)?;
+    let mut node = Node::leaf(alloc, Part::GotoRange, vec![in alloc; states, target]?)?;
+    match note {
+        Some(note) => node.note(alloc, vec![in alloc; note]?)?,
+        None => {}
+    }
+    Ok(node)
+}
+
+/// Form 17: a nonterminal whose gotos have several targets: per target but the catch-all its
+/// states, then the catch-all.
+pub fn goto_match<'t>(
+    alloc: Global,
+    nonterminal: u64,
+    arms: Vec<GotoArm<'t>>,
+    other: u64,
+) -> Result<Node<'t>, AllocError> {
+    let nonterminal = Piece::number(alloc, nonterminal)?;
+    let other = Piece::number(alloc, other)?;
+    let mut node = Node::leaf(alloc, Part::GotoMatch, vec![in alloc; nonterminal, other]?)?;
+    for arm in arms {
+        node.add(goto_range(alloc, arm)?)?;
+    }
+    Ok(node)
+}
+
+/// Form 18: the names of the terminals, without the error terminal.
+pub fn terminal_list<'t>(alloc: Global, terminals: Vec<Piece<'t>>) -> Result<Node<'t>, AllocError> {
+    let mut node = bare(alloc, Part::TerminalList)?;
+    add_texts(alloc, &mut node, Part::TerminalRow, terminals)?;
+    Ok(node)
+}
+
+/// Form 19: the terminals with an action in a state.
+pub fn expected<'t>(alloc: Global, state_type: Name<'t>) -> Result<Node<'t>, AllocError>
+    ensures { IfOk result (λ n. items n ≡ leaf Part.Expected (state_type.entry ∷ [])) }
+{
+    text_row(alloc, Part::Expected, state_type.into_piece())
+}
+
+/// Form 20: the terminals that a stack of states accepts: the phantom expression. Below it: the
+/// header.
+pub fn expected_from_states<'t>(
+    alloc: Global,
+    phantom: Piece<'t>,
+    below: Vec<Node<'t>>,
+) -> Result<Node<'t>, AllocError> {
+    let mut node = text_row(alloc, Part::ExpectedFromStates, phantom)?;
+    node.add_all(below)?;
+    Ok(node)
+}
+
+/// The pattern of a terminal, with `_` in its holes, and the terminal's number.
+#[derive(Drop)]
+pub struct IntegerArm<'t> {
+    pub pattern: Piece<'t>,
+    pub terminal: u64,
+}
+
+/// Form 23: the number of a token. Below it: the header.
+pub fn token_to_integer<'t>(
+    alloc: Global,
+    arms: Vec<IntegerArm<'t>>,
+    below: Vec<Node<'t>>,
+) -> Result<Node<'t>, AllocError> {
+    let mut node = bare(alloc, Part::TokenToInteger)?;
+    node.add_all(below)?;
+    for arm in arms {
+        let IntegerArm { pattern, terminal } = arm;
+        let terminal = Piece::number(alloc, terminal)?;
+        node.add(Node::leaf(alloc, Part::IntegerRow, vec![in alloc; pattern, terminal]?)?)?;
+    }
+    Ok(node)
+}
+
+/// Form 24: the value of a token. Below it: the header and the arms.
+pub fn token_to_symbol<'t>(alloc: Global, below: Vec<Node<'t>>) -> Result<Node<'t>, AllocError> {
+    let mut node = bare(alloc, Part::TokenToSymbol)?;
+    node.add_all(below)?;
+    Ok(node)
+}
+
+/// The numbers joined by ` | `.
+fn joined_numbers<'t>(alloc: Global, numbers: &[u64]) -> Result<Piece<'t>, AllocError> {
+    let mut text = String::new(alloc);
+    for (i, number) in numbers.iter().enumerate() {
+        if i > 0 {
+            text.push_str(" | ")?;
+        }
+        let digits = Piece::number(alloc, *number)?;
+        text.push_str(digits.as_str())?;
+    }
+    Ok(Piece::new(std::borrow::CowStr::Owned(text)))
+}
+
+/// The texts joined by ` | `.
+fn joined_texts<'t>(alloc: Global, texts: &[Piece<'t>]) -> Result<Piece<'t>, AllocError> {
+    let mut text = String::new(alloc);
+    for (i, piece) in texts.iter().enumerate() {
+        if i > 0 {
+            text.push_str(" | ")?;
+        }
+        text.push_str(piece.as_str())?;
+    }
+    Ok(Piece::new(std::borrow::CowStr::Owned(text)))
+}
+
+/// Form 25: the terminals of one variant with one number of captures: their numbers, their patterns
+/// with the names `~tok0`, `~tok1`, .. in their holes, the variant, and what it holds: `~tok0` or
+/// `(~tok0, ~tok1)`. Without captures there are no patterns, and `captures` isn't printed.
+pub fn symbol_arm<'t>(
+    alloc: Global,
+    terminals: &[u64],
+    patterns: Vec<Piece<'t>>,
+    variant: Name<'t>,
+    captures: Piece<'t>,
+) -> Result<Node<'t>, AllocError> {
+    let terminals = joined_numbers(alloc, terminals)?;
+    let variant = variant.into_piece();
+    if patterns.is_empty() {
+        return Node::leaf(alloc, Part::SymbolArm, vec![in alloc; terminals, variant]?);
+    }
+    let patterns = joined_texts(alloc, patterns.as_slice())?;
+    Node::leaf(
+        alloc,
+        Part::SymbolMatch,
+        vec![in alloc; terminals, patterns, variant, captures]?,
+    )
+}

@@ -1,0 +1,32 @@
+-- Program trees: parts in the order of the text, each with the number of parts below it.
+use Rattle.std.specs.Prelude.{ℕ, ℤ, List, [], ◌∷◌, map}
+use Rattle.std.specs.List.{filter_map}
+use Rattle.lp_form.specs.Forms.{form_of}
+use Rattle.lp_form.specs.declared.kind.FormKind.{FormKind}
+use Rattle.lp_tree.specs.declared.tree.Entry.{Entry}
+use Rattle.lp_form.specs.declared.part.Part.{Part}
+use Rattle.lp_tree.specs.declared.tree.Node.{Node}
+use Rattle.lp_tree.specs.declared.tree.Program.{Program}
+
+-- the forms among parts, in their order
+abbrev pub forms_of : List Entry → List FormKind
+forms_of es = filter_map (λ e. form_of e.part) es
+
+-- the forms of a program, in the order of the text
+abbrev pub forms : Program → List FormKind
+forms p = forms_of p.entries.items
+
+-- a part with what its holes hold, the entries of its table, and the number of parts below it
+abbrev pub Item : Type 0
+Item = Part × List (List ℕ) × List ℤ × ℕ
+
+abbrev pub item : Entry → Item
+item e = (e.part, e.holes.items, e.numbers.items, e.below)
+
+-- the parts of a node, in the order of the text
+abbrev pub items : Node → List Item
+items n = map item n.entries.items
+
+-- a part with nothing below it
+abbrev pub leaf : Part → List (List ℕ) → List Item
+leaf part holes = (part, holes, [], 0) ∷ []

@@ -1,0 +1,19 @@
+//! Reading the forms of a program, without memory.
+#![tactic(auto)]
+
+pub mod count;
+mod form_view;
+mod joined;
+mod made;
+mod part;
+mod row;
+mod walk;
+
+pub use count::{form_count, form_number, node_count};
+pub use form_view::{
+    ActionView, FormView, LocationView, NameView, ReductionView, SpanView, TriplesView,
+};
+pub use joined::{Joined, Patterns, parts_of, patterns_of};
+pub use part::{PartRef, Parts};
+pub use row::{RowView, Rows};
+pub use walk::{Below, FormRef, end_of, root};

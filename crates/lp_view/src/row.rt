@@ -1,0 +1,237 @@
+//! Reading the rows of a form.
+
+ghost use Rattle.std.specs.Prelude.{◌≡◌, ◌<◌, ◌≤◌, length};
+ghost use Rattle.std.specs.Iterator.{at_most};
+
+use crate::walk::{FormRef, after_first, child, end_of, place_of};
+use lp_form::Part;
+use lp_tree::tree::{Entry, Reduced};
+
+/// A row of a form.
+#[derive(Clone, Copy)]
+pub enum RowView<'p, 't> {
+    /// A text or a name: a type parameter, a parameter, a clause, a terminal, an argument, a token.
+    Text(&'p str),
+    /// A variant or a field with its type; of a return enum the nonterminal with its contents.
+    Typed {
+        name: &'p str,
+        ty: &'p str,
+    },
+    /// Numbers and ranges joined by ` | `, and the state that they go to.
+    Goto {
+        states: &'p str,
+        target: u64,
+    },
+    /// A pattern and the number of its terminal.
+    Integer {
+        pattern: &'p str,
+        terminal: u64,
+    },
+    /// A production, and what reducing it does; the start's reduces nothing.
+    Production {
+        production: u64,
+        reduced: Option<Reduced>,
+    },
+    /// A production that is reduced by its own function, with each parameter name and `, `.
+    Call {
+        production: u64,
+        arguments: &'p str,
+        phantom: &'p str,
+    },
+    /// A production that is reduced in place.
+    Body {
+        production: u64,
+        body: FormRef<'p, 't>,
+    },
+    /// A symbol that is popped, and its variant.
+    Pop {
+        symbol: u64,
+        variant: &'p str,
+    },
+    /// A slot.
+    Slot(u64),
+    /// A regular expression as a string literal, and whether its matches are skipped.
+    Intern {
+        literal: &'p str,
+        skip: bool,
+    },
+    /// A goto: the escaped nonterminal, the number of the symbol, and the transition.
+    Arm {
+        nonterminal: &'p str,
+        symbol: u64,
+        transition: FormRef<'p, 't>,
+    },
+    /// The span of an inlined action.
+    Span {
+        number: u64,
+        start: &'p str,
+        end: &'p str,
+    },
+    /// The call of an inlined action.
+    Inlined {
+        number: u64,
+        action: u64,
+        type_arguments: Rows<'p, 't>,
+        arguments: Rows<'p, 't>,
+        fallible: bool,
+    },
+}
+
+/// Rows of one form.
+#[derive(Clone, Copy)]
+pub struct Rows<'p, 't> {
+    rest: &'p [Entry<'t>],
+    left: usize,
+    first: Part,
+    second: Part,
+}
+
+/// The rows directly below a part that are one of two parts.
+pub(crate) fn rows_below<'p, 't>(
+    entries: &'p [Entry<'t>],
+    first: Part,
+    second: Part,
+) -> Rows<'p, 't> {
+    let rest = after_first(entries);
+    Rows {
+        rest,
+        left: rest.len(),
+        first,
+        second,
+    }
+}
+
+impl<'p, 't> Iterator for Rows<'p, 't> {
+    type Item = RowView<'p, 't>;
+
+    ghost remaining = { λ s. at_most s.left };
+
+    fn next(&mut self) -> Option<RowView<'p, 't>> {
+        if self.left == 0 {
+            return None;
+        }
+        self.left -= 1;
+        let rest = self.rest;
+        let at = place_of(rest, 0, self.first, self.second);
+        if at >= rest.len() {
+            return None;
+        }
+        let end = end_of(rest, at);
+        self.rest = &rest[end..];
+        Some(row_view(&rest[at..end]))
+    }
+}
+
+/// What a hole of the first part holds; the empty text where there is no such hole.
+pub(crate) fn text<'p, 't>(entries: &'p [Entry<'t>], hole: usize) -> &'p str {
+    match entries.first() {
+        Some(entry) => hole_text(entry, hole),
+        None => "",
+    }
+}
+
+fn hole_text<'p, 't>(entry: &'p Entry<'t>, hole: usize) -> &'p str {
+    if hole < entry.holes.len() {
+        entry.holes[hole].as_str()
+    } else {
+        ""
+    }
+}
+
+/// The number that a hole of the first part holds; 0 where it holds none.
+pub(crate) fn number(entries: &[Entry<'_>], hole: usize) -> u64 {
+    let digits = text(entries, hole);
+    digits.parse::<u64>().unwrap_or(0)
+}
+
+/// What a reduction does, from two holes.
+pub(crate) fn reduced(entries: &[Entry<'_>], pop: usize, nonterminal: usize) -> Reduced {
+    Reduced {
+        pop: number(entries, pop),
+        nonterminal: number(entries, nonterminal),
+    }
+}
+
+/// The first form below.
+fn form_below<'p, 't>(entries: &'p [Entry<'t>]) -> FormRef<'p, 't> {
+    FormRef {
+        entries: after_first(entries),
+    }
+}
+
+/// The row that a part is.
+fn row_view<'p, 't>(entries: &'p [Entry<'t>]) -> RowView<'p, 't> {
+    let part = match entries.first() {
+        Some(entry) => entry.part,
+        None => return RowView::Text(""),
+    };
+    match part {
+        Part::VariantRow | Part::FieldRow | Part::ReturnRow => RowView::Typed {
+            name: text(entries, 0),
+            ty: text(entries, 1),
+        },
+        Part::GotoRange => RowView::Goto {
+            states: text(entries, 0),
+            target: number(entries, 1),
+        },
+        Part::IntegerRow => RowView::Integer {
+            pattern: text(entries, 0),
+            terminal: number(entries, 1),
+        },
+        Part::SimulateAccept | Part::AscentAccept => RowView::Production {
+            production: number(entries, 0),
+            reduced: None,
+        },
+        Part::SimulateArm | Part::AscentArm => RowView::Production {
+            production: number(entries, 0),
+            reduced: Some(reduced(entries, 1, 2)),
+        },
+        Part::ReduceCallArm => RowView::Call {
+            production: number(entries, 0),
+            arguments: text(entries, 1),
+            phantom: text(entries, 2),
+        },
+        Part::ReduceBodyArm => RowView::Body {
+            production: number(entries, 0),
+            body: form_below(entries),
+        },
+        _ => other_row(part, entries),
+    }
+}
+
+/// The row that a part of recursive ascent, of an action or of another list is.
+fn other_row<'p, 't>(part: Part, entries: &'p [Entry<'t>]) -> RowView<'p, 't> {
+    match part {
+        Part::PopLine => RowView::Pop {
+            symbol: number(entries, 0),
+            variant: text(entries, 1),
+        },
+        Part::SlotLine | Part::TakeLine | Part::LocationRow => RowView::Slot(number(entries, 0)),
+        Part::InternSkip => RowView::Intern {
+            literal: text(entries, 0),
+            skip: true,
+        },
+        Part::InternKeep => RowView::Intern {
+            literal: text(entries, 0),
+            skip: false,
+        },
+        Part::GotoArm => RowView::Arm {
+            nonterminal: text(entries, 0),
+            symbol: number(entries, 1),
+            transition: form_below(entries),
+        },
+        Part::InlineSpan => RowView::Span {
+            number: number(entries, 0),
+            start: text(entries, 1),
+            end: text(entries, 2),
+        },
+        Part::InlineCall | Part::InlineCallTyped => RowView::Inlined {
+            number: number(entries, 0),
+            action: number(entries, 1),
+            type_arguments: rows_below(entries, Part::TypeArgument, Part::TypeArgument),
+            arguments: rows_below(entries, Part::ArgumentRow, Part::ArgumentRow),
+            fallible: !child(entries, Part::CallEndFallible, Part::CallEndFallible).is_empty(),
+        },
+        _ => RowView::Text(text(entries, 0)),
+    }
+}
