@@ -1,5 +1,10 @@
 //! Action functions.
 
+ghost use Rattle.std.specs.Prelude.{◌≡◌, [], ◌∷◌, ◌++◌, map, IfOk, OnOk};
+ghost use Rattle.std.specs.List.{flat_map};
+ghost use Rattle.lp_build.specs.Actions.{action_part, body_lines, call_lines, call_part, outer_lines, outer_part, span_row};
+ghost use Rattle.lp_tree.specs.ProgramTree.{head, items, parts_below};
+
 use super::{add_texts, bare, text_row};
 use lp_form::Part;
 use lp_tree::piece::Piece;
@@ -55,7 +60,9 @@ pub enum ActionBody<'t> {
 }
 
 /// The call of one inlined action.
-fn inline_call<'t>(alloc: Global, call: InlineCall<'t>) -> Result<Node<'t>, AllocError> {
+fn inline_call<'t>(alloc: Global, call: InlineCall<'t>) -> Result<Node<'t>, AllocError>
+    ensures { IfOk result (λ n. items n ≡ call_lines call.entry) }
+{
     let InlineCall {
         number,
         action,
@@ -63,11 +70,7 @@ fn inline_call<'t>(alloc: Global, call: InlineCall<'t>) -> Result<Node<'t>, Allo
         arguments,
         fallible,
     } = call;
-    let part = if type_arguments.is_empty() {
-        Part::InlineCall
-    } else {
-        Part::InlineCallTyped
-    };
+    let part = call_part(type_arguments.as_slice());
     let number = Piece::number(alloc, number)?;
     let action = Piece::number(alloc, action)?;
     let mut node = Node::leaf(alloc, part, vec![in alloc; number, action]?)?;
@@ -82,20 +85,40 @@ fn inline_call<'t>(alloc: Global, call: InlineCall<'t>) -> Result<Node<'t>, Allo
     Ok(node)
 }
 
+/// The call of an inlined action, with type arguments or without.
+fn call_part(type_arguments: &[Piece<'_>]) -> Part
+    ensures { result ≡ call_part type_arguments.now }
+{
+    if type_arguments.is_empty() {
+        Part::InlineCall
+    } else {
+        Part::InlineCallTyped
+    }
+}
+
+/// The outer call, under `Ok` or not, with type arguments or without.
+fn outer_part(wrapped: bool, type_arguments: &[Piece<'_>]) -> Part
+    ensures { result ≡ outer_part wrapped type_arguments.now }
+{
+    match (wrapped, type_arguments.is_empty()) {
+        (false, true) => Part::OuterCall,
+        (false, false) => Part::OuterCallTyped,
+        (true, true) => Part::OuterCallOk,
+        (true, false) => Part::OuterCallOkTyped,
+    }
+}
+
 /// The outer call.
-fn outer_call<'t>(alloc: Global, call: OuterCall<'t>) -> Result<Node<'t>, AllocError> {
+fn outer_call<'t>(alloc: Global, call: OuterCall<'t>) -> Result<Node<'t>, AllocError>
+    ensures { IfOk result (λ n. items n ≡ outer_lines call.entry) }
+{
     let OuterCall {
         action,
         type_arguments,
         arguments,
         wrapped,
     } = call;
-    let part = match (wrapped, type_arguments.is_empty()) {
-        (false, true) => Part::OuterCall,
-        (false, false) => Part::OuterCallTyped,
-        (true, true) => Part::OuterCallOk,
-        (true, false) => Part::OuterCallOkTyped,
-    };
+    let part = outer_part(wrapped, type_arguments.as_slice());
     let mut node = text_row(alloc, part, Piece::number(alloc, action)?)?;
     add_texts(alloc, &mut node, Part::TypeArgument, type_arguments)?;
     add_texts(alloc, &mut node, Part::ArgumentRow, arguments)?;
@@ -108,22 +131,53 @@ fn inline_body<'t>(
     spans: Vec<InlineSpan<'t>>,
     calls: Vec<InlineCall<'t>>,
     outer: OuterCall<'t>,
-) -> Result<Node<'t>, AllocError> {
+) -> Result<Node<'t>, AllocError>
+    ensures head { IfOk result (λ n. head n ≡ (Part.InlineBody, [], [])) }
+    ensures below { IfOk result (λ n. parts_below n ≡ (map span_row spans.entry.items ++ flat_map call_lines calls.entry.items) ++ outer_lines outer.entry) }
+{
     let mut node = bare(alloc, Part::InlineBody)?;
+    add_spans(alloc, &mut node, spans)?;
+    add_calls(alloc, &mut node, calls)?;
+    node.add(outer_call(alloc, outer)?)?;
+    Ok(node)
+}
+
+/// Puts the spans of inlined actions below the node.
+fn add_spans<'t>(
+    alloc: Global,
+    node: &mut Node<'t>,
+    spans: Vec<InlineSpan<'t>>,
+) -> Result<(), AllocError>
+    ensures head { head node.new ≡ head node.old }
+    ensures below { OnOk result (parts_below node.new ≡ parts_below node.old ++ map span_row spans.entry.items) }
+{
     for span in spans {
         let InlineSpan { number, start, end } = span;
         let number = Piece::number(alloc, number)?;
         node.add(Node::leaf(alloc, Part::InlineSpan, vec![in alloc; number, start, end]?)?)?;
     }
+    Ok(())
+}
+
+/// Puts the calls of inlined actions below the node.
+fn add_calls<'t>(
+    alloc: Global,
+    node: &mut Node<'t>,
+    calls: Vec<InlineCall<'t>>,
+) -> Result<(), AllocError>
+    ensures head { head node.new ≡ head node.old }
+    ensures below { OnOk result (parts_below node.new ≡ parts_below node.old ++ flat_map call_lines calls.entry.items) }
+{
     for call in calls {
         node.add(inline_call(alloc, call)?)?;
     }
-    node.add(outer_call(alloc, outer)?)?;
-    Ok(node)
+    Ok(())
 }
 
 /// The body of an action function.
-fn body_lines<'t>(alloc: Global, body: ActionBody<'t>) -> Result<Node<'t>, AllocError> {
+fn body_lines<'t>(alloc: Global, body: ActionBody<'t>) -> Result<Node<'t>, AllocError>
+    ensures { IfOk result (λ n. items n ≡ body_lines body.entry) }
+{
     match body {
         ActionBody::User { code } => text_row(alloc, Part::UserBody, code),
         ActionBody::Lookahead => bare(alloc, Part::LookaheadBody),
@@ -136,11 +190,15 @@ fn body_lines<'t>(alloc: Global, body: ActionBody<'t>) -> Result<Node<'t>, Alloc
     }
 }
 
-/// Whether a body gives the location of the lookahead or the one behind.
-fn is_lookaround(body: &ActionBody<'_>) -> bool {
-    match body {
-        ActionBody::Lookahead | ActionBody::Lookbehind => true,
-        _ => false,
+/// The function of a body, which gives a location or calls user code.
+fn action_part(body: &ActionBody<'_>, unused_variables: bool) -> Part
+    ensures { result ≡ action_part body.now unused_variables }
+{
+    match (body, unused_variables) {
+        (ActionBody::Lookahead | ActionBody::Lookbehind, false) => Part::Lookaround,
+        (ActionBody::Lookahead | ActionBody::Lookbehind, true) => Part::LookaroundUnused,
+        (ActionBody::User { .. } | ActionBody::Inline { .. }, false) => Part::ActionFn,
+        (ActionBody::User { .. } | ActionBody::Inline { .. }, true) => Part::ActionFnUnused,
     }
 }
 
@@ -151,14 +209,11 @@ pub fn action_fn<'t>(
     unused_variables: bool,
     body: ActionBody<'t>,
     below: Vec<Node<'t>>,
-) -> Result<Node<'t>, AllocError> {
-    let part = match (is_lookaround(&body), unused_variables) {
-        (false, false) => Part::ActionFn,
-        (false, true) => Part::ActionFnUnused,
-        (true, false) => Part::Lookaround,
-        (true, true) => Part::LookaroundUnused,
-    };
-    let mut node = bare(alloc, part)?;
+) -> Result<Node<'t>, AllocError>
+    ensures head { IfOk result (λ n. head n ≡ (action_part body.entry unused_variables, [], [])) }
+    ensures below { IfOk result (λ n. parts_below n ≡ flat_map items below.entry.items ++ body_lines body.entry) }
+{
+    let mut node = bare(alloc, action_part(&body, unused_variables))?;
     node.add_all(below)?;
     node.add(body_lines(alloc, body)?)?;
     Ok(node)

@@ -1,7 +1,10 @@
 //! State functions of recursive ascent, and what their trials ask.
 
-ghost use Rattle.std.specs.Prelude.{◌≡◌, [], ◌∷◌, IfOk};
-ghost use Rattle.lp_tree.specs.ProgramTree.{items, leaf};
+ghost use Rattle.std.specs.Prelude.{◌≡◌, [], ◌∷◌, ◌++◌, map, IfOk};
+ghost use Rattle.std.specs.List.{flat_map};
+ghost use Rattle.lp_build.specs.Ascent.{location_lines, return_row, shift_holes, shift_part, trial_row};
+ghost use Rattle.lp_build.specs.Built.{text_if};
+ghost use Rattle.lp_tree.specs.ProgramTree.{head, items, leaf, parts_below};
 
 use super::{add_numbers, add_text, bare, text_row};
 use lp_form::Part;
@@ -39,7 +42,10 @@ pub fn return_enum<'t>(
     type_parameters: Piece<'t>,
     clauses: Option<Piece<'t>>,
     variants: Vec<ReturnVariant<'t>>,
-) -> Result<Node<'t>, AllocError> {
+) -> Result<Node<'t>, AllocError>
+    ensures head { IfOk result (λ n. head n ≡ (Part.ReturnEnum, type_parameters.entry ∷ [], [])) }
+    ensures below { IfOk result (λ n. parts_below n ≡ text_if Part.WhereLine clauses.entry ++ map return_row variants.entry.items) }
+{
     let mut node = text_row(alloc, Part::ReturnEnum, type_parameters)?;
     add_text(alloc, &mut node, Part::WhereLine, clauses)?;
     for variant in variants {
@@ -99,20 +105,36 @@ pub fn shift_arm<'t>(
     symbol: u64,
     names: Option<Piece<'t>>,
     below: Vec<Node<'t>>,
-) -> Result<Node<'t>, AllocError> {
+) -> Result<Node<'t>, AllocError>
+    ensures head { IfOk result (λ n. head n ≡ (shift_part names.entry, shift_holes pattern.entry symbol names.entry, [])) }
+    ensures below { IfOk result (λ n. parts_below n ≡ flat_map items below.entry.items) }
+{
+    let mut node = shift_line(alloc, pattern, symbol, names)?;
+    node.add_all(below)?;
+    Ok(node)
+}
+
+/// The line of a shift.
+fn shift_line<'t>(
+    alloc: Global,
+    pattern: Piece<'t>,
+    symbol: u64,
+    names: Option<Piece<'t>>,
+) -> Result<Node<'t>, AllocError>
+    ensures head { IfOk result (λ n. head n ≡ (shift_part names.entry, shift_holes pattern.entry symbol names.entry, [])) }
+    ensures below { IfOk result (λ n. parts_below n ≡ []) }
+{
     let symbol = Piece::number(alloc, symbol)?;
-    let mut node = match names {
+    match names {
         Some(names) => {
             Node::leaf(
                 alloc,
                 Part::ShiftArm,
                 vec![in alloc; pattern, symbol, names]?,
-            )?
+            )
         }
-        None => Node::leaf(alloc, Part::ShiftWhole, vec![in alloc; pattern, symbol]?)?,
-    };
-    node.add_all(below)?;
-    Ok(node)
+        None => Node::leaf(alloc, Part::ShiftWhole, vec![in alloc; pattern, symbol]?),
+    }
 }
 
 /// Where the location of an error at the end of input comes from.
@@ -127,21 +149,30 @@ pub enum ErrorLocation {
 }
 
 /// Form 39: a token without an action: where the location comes from.
-pub fn error_arm<'t>(alloc: Global, location: ErrorLocation) -> Result<Node<'t>, AllocError> {
+pub fn error_arm<'t>(alloc: Global, location: ErrorLocation) -> Result<Node<'t>, AllocError>
+    ensures head { IfOk result (λ n. head n ≡ (Part.ErrorArm, [], [])) }
+    ensures below { IfOk result (λ n. parts_below n ≡ location_lines location) }
+{
     let mut node = bare(alloc, Part::ErrorArm)?;
-    let lines = match location {
+    node.add(location_lines(alloc, location)?)?;
+    Ok(node)
+}
+
+/// The lines that find the location.
+fn location_lines<'t>(alloc: Global, location: ErrorLocation) -> Result<Node<'t>, AllocError>
+    ensures { IfOk result (λ n. items n ≡ location_lines location) }
+{
+    match location {
         ErrorLocation::Fixed { slot } => {
-            text_row(alloc, Part::LocationFixed, Piece::number(alloc, slot)?)?
+            text_row(alloc, Part::LocationFixed, Piece::number(alloc, slot)?)
         }
-        ErrorLocation::Default => bare(alloc, Part::LocationDefault)?,
+        ErrorLocation::Default => bare(alloc, Part::LocationDefault),
         ErrorLocation::Chain { slots } => {
             let mut chain = bare(alloc, Part::LocationChain)?;
             add_numbers(alloc, &mut chain, Part::LocationRow, slots.as_slice())?;
-            chain
+            Ok(chain)
         }
-    };
-    node.add(lines)?;
-    Ok(node)
+    }
 }
 
 /// A goto of a frame: the escaped name of the nonterminal, and the number of the symbol. Its
@@ -205,21 +236,31 @@ pub fn ascent_simulate<'t>(
     alloc: Global,
     state_type: Name<'t>,
     arms: &[TrialArm],
-) -> Result<Node<'t>, AllocError> {
+) -> Result<Node<'t>, AllocError>
+    ensures head { IfOk result (λ n. head n ≡ (Part.AscentSimulate, state_type.entry ∷ [], [])) }
+    ensures below { IfOk result (λ n. parts_below n ≡ map trial_row arms.now) }
+{
     let mut node = text_row(alloc, Part::AscentSimulate, state_type.into_piece())?;
     for arm in arms {
-        let production = Piece::number(alloc, arm.production)?;
-        match arm.reduced {
-            None => node.add(text_row(alloc, Part::AscentAccept, production)?)?,
-            Some(reduced) => {
-                let pop = Piece::number(alloc, reduced.pop)?;
-                let nonterminal = Piece::number(alloc, reduced.nonterminal)?;
-                let holes = vec![in alloc; production, pop, nonterminal]?;
-                node.add(Node::leaf(alloc, Part::AscentArm, holes)?)?;
-            }
-        }
+        node.add(trial_row(alloc, arm)?)?;
     }
     Ok(node)
+}
+
+/// One production of a trial.
+fn trial_row<'t>(alloc: Global, arm: &TrialArm) -> Result<Node<'t>, AllocError>
+    ensures { IfOk result (λ n. items n ≡ trial_row arm.now ∷ []) }
+{
+    let production = Piece::number(alloc, arm.production)?;
+    match arm.reduced {
+        None => text_row(alloc, Part::AscentAccept, production),
+        Some(reduced) => {
+            let pop = Piece::number(alloc, reduced.pop)?;
+            let nonterminal = Piece::number(alloc, reduced.nonterminal)?;
+            let holes = vec![in alloc; production, pop, nonterminal]?;
+            Node::leaf(alloc, Part::AscentArm, holes)
+        }
+    }
 }
 
 /// Form 46: whether a stack of states accepts a terminal.

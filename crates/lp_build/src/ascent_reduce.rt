@@ -1,5 +1,11 @@
 //! Reductions and transitions of recursive ascent.
 
+ghost use Rattle.std.specs.Prelude.{◌≡◌, [], ◌∷◌, ◌++◌, map, IfOk, OnOk, if◌then◌else◌};
+ghost use Rattle.std.specs.Fmt.{decimal};
+ghost use Rattle.lp_build.specs.Ascent.{ascent_span, reduction_lines, token_line};
+ghost use Rattle.lp_build.specs.Built.{leaf_if, text_rows};
+ghost use Rattle.lp_tree.specs.ProgramTree.{head, items, leaf, parts_below};
+
 use super::{add_numbers, bare, text_row};
 use lp_form::Part;
 use lp_tree::piece::Piece;
@@ -35,7 +41,9 @@ pub struct Reduction<'t> {
 }
 
 /// The lines that find the span.
-fn span_lines<'t>(alloc: Global, span: AscentSpan<'t>) -> Result<Node<'t>, AllocError> {
+fn span_lines<'t>(alloc: Global, span: AscentSpan<'t>) -> Result<Node<'t>, AllocError>
+    ensures { IfOk result (λ n. items n ≡ ascent_span span.entry) }
+{
     match span {
         AscentSpan::Symbols { first, last } => {
             let first = Piece::number(alloc, first)?;
@@ -53,7 +61,9 @@ fn span_lines<'t>(alloc: Global, span: AscentSpan<'t>) -> Result<Node<'t>, Alloc
 }
 
 /// The lines of a reduction after its tokens.
-fn reduce_lines<'t>(alloc: Global, reduction: Reduction<'t>) -> Result<Node<'t>, AllocError> {
+fn reduce_lines<'t>(alloc: Global, reduction: Reduction<'t>) -> Result<Node<'t>, AllocError>
+    ensures { IfOk result (λ n. items n ≡ reduction_lines reduction.entry) }
+{
     let Reduction {
         takes,
         span,
@@ -67,21 +77,43 @@ fn reduce_lines<'t>(alloc: Global, reduction: Reduction<'t>) -> Result<Node<'t>,
     let mut node = text_row(alloc, Part::ReduceLines, nonterminal)?;
     add_numbers(alloc, &mut node, Part::TakeLine, takes.as_slice())?;
     node.add(span_lines(alloc, span)?)?;
+    node.add(call_line(alloc, fallible, action, type_arguments, arguments)?)?;
+    add_return(alloc, &mut node, returns)?;
+    Ok(node)
+}
+
+/// The call of an action.
+fn call_line<'t>(
+    alloc: Global,
+    fallible: bool,
+    action: u64,
+    type_arguments: Piece<'t>,
+    arguments: Piece<'t>,
+) -> Result<Node<'t>, AllocError>
+    ensures { IfOk result (λ n. items n ≡ leaf (if fallible then Part.AscentCallFallible else Part.AscentCall) (decimal action ∷ type_arguments.entry ∷ arguments.entry ∷ [])) }
+{
     let part = if fallible {
         Part::AscentCallFallible
     } else {
         Part::AscentCall
     };
     let action = Piece::number(alloc, action)?;
-    node.add(Node::leaf(
+    Node::leaf(
         alloc,
         part,
         vec![in alloc; action, type_arguments, arguments]?,
-    )?)?;
+    )
+}
+
+/// Puts the line below the node that answers at once, if it is asked for.
+fn add_return<'t>(alloc: Global, node: &mut Node<'t>, returns: bool) -> Result<(), AllocError>
+    ensures head { head node.new ≡ head node.old }
+    ensures below { OnOk result (parts_below node.new ≡ parts_below node.old ++ leaf_if returns Part.ReturnLine) }
+{
     if returns {
         node.add(bare(alloc, Part::ReturnLine)?)?;
     }
-    Ok(node)
+    Ok(())
 }
 
 /// The part of a token that isn't the last one, or is.
@@ -90,7 +122,9 @@ fn token_row<'t>(
     with: Part,
     end: Part,
     token: Option<Piece<'t>>,
-) -> Result<Node<'t>, AllocError> {
+) -> Result<Node<'t>, AllocError>
+    ensures { IfOk result (λ n. items n ≡ token_line with end token.entry) }
+{
     match token {
         Some(pattern) => text_row(alloc, with, pattern),
         None => bare(alloc, end),
@@ -135,13 +169,14 @@ pub fn transition<'t>(
     symbols: Piece<'t>,
     phantom: Piece<'t>,
     returns: bool,
-) -> Result<Node<'t>, AllocError> {
+) -> Result<Node<'t>, AllocError>
+    ensures head { IfOk result (λ n. head n ≡ (Part.Transition, decimal target ∷ arguments.entry ∷ symbols.entry ∷ phantom.entry ∷ [], [])) }
+    ensures below { IfOk result (λ n. parts_below n ≡ text_rows Part.TakeLine (map decimal takes.now) ++ leaf_if returns Part.ReturnLine) }
+{
     let target = Piece::number(alloc, target)?;
     let holes = vec![in alloc; target, arguments, symbols, phantom]?;
     let mut node = Node::leaf(alloc, Part::Transition, holes)?;
     add_numbers(alloc, &mut node, Part::TakeLine, takes)?;
-    if returns {
-        node.add(bare(alloc, Part::ReturnLine)?)?;
-    }
+    add_return(alloc, &mut node, returns)?;
     Ok(node)
 }

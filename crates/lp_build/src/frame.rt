@@ -1,12 +1,15 @@
 //! The forms around the modules.
 
-ghost use Rattle.std.specs.Prelude.{◌≡◌, [], ◌∷◌, IfOk, if◌then◌else◌};
-ghost use Rattle.lp_tree.specs.ProgramTree.{items, leaf};
+ghost use Rattle.std.specs.Prelude.{◌≡◌, [], ◌∷◌, ◌++◌, map, IfOk, OnOk, if◌then◌else◌};
+ghost use Rattle.std.specs.List.{flat_map};
+ghost use Rattle.lp_build.specs.Built.{over};
+ghost use Rattle.lp_build.specs.Frame.{hole_if, intern_row, intern_rows, triple_holes, triple_part};
+ghost use Rattle.lp_tree.specs.ProgramTree.{head, items, leaf, parts_below, program_items};
 
 use super::{add_text, bare, text_row};
 use lp_form::Part;
 use lp_tree::piece::{Name, Piece};
-use lp_tree::tree::{Node, Program};
+use lp_tree::tree::{Node, Program, push_node};
 use std::alloc::{AllocError, Global};
 
 /// Form 1: the whole text. `~` stands for the prefix in all of it. Below it: attributes, uses, the
@@ -16,10 +19,14 @@ pub fn program<'t>(
     alloc: Global,
     prefix: Piece<'t>,
     below: Vec<Node<'t>>,
-) -> Result<Program<'t>, AllocError> {
+) -> Result<Program<'t>, AllocError>
+    ensures prefix { IfOk result (λ p. p.prefix ≡ prefix.entry) }
+    ensures parts { IfOk result (λ p. program_items p ≡ over Part.Program [] (flat_map items below.entry.items)) }
+{
     let mut node = bare(alloc, Part::Program)?;
     node.add_all(below)?;
-    let Node { entries } = node;
+    let mut entries = Vec::new(alloc);
+    push_node(&mut entries, node)?;
     Ok(Program { prefix, entries })
 }
 
@@ -136,10 +143,29 @@ pub fn token_module<'t>(
     alloc: Global,
     entries: Vec<InternEntry<'t>>,
     below: Vec<Node<'t>>,
-) -> Result<Node<'t>, AllocError> {
+) -> Result<Node<'t>, AllocError>
+    ensures head { IfOk result (λ n. head n ≡ (Part.TokenModule, [], [])) }
+    ensures below { IfOk result (λ n. parts_below n ≡ flat_map items below.entry.items ++ intern_rows entries.entry.items) }
+{
     let mut node = bare(alloc, Part::TokenModule)?;
     node.add_all(below)?;
-    let mut skips = false;
+    let skips = entries.iter().any(|entry| entry.skip);
+    add_entries(alloc, &mut node, entries)?;
+    if !skips {
+        node.add(bare(alloc, Part::WhitespaceRow)?)?;
+    }
+    Ok(node)
+}
+
+/// Puts the regular expressions below the node.
+fn add_entries<'t>(
+    alloc: Global,
+    node: &mut Node<'t>,
+    entries: Vec<InternEntry<'t>>,
+) -> Result<(), AllocError>
+    ensures head { head node.new ≡ head node.old }
+    ensures below { OnOk result (parts_below node.new ≡ parts_below node.old ++ map intern_row entries.entry.items) }
+{
     for entry in entries {
         let InternEntry { literal, skip } = entry;
         let part = if skip {
@@ -147,13 +173,9 @@ pub fn token_module<'t>(
         } else {
             Part::InternKeep
         };
-        skips = skips || skip;
         node.add(text_row(alloc, part, literal)?)?;
     }
-    if !skips {
-        node.add(bare(alloc, Part::WhitespaceRow)?)?;
-    }
-    Ok(node)
+    Ok(())
 }
 
 /// What the two implementations of `to_triple` are for.
@@ -176,8 +198,10 @@ pub fn to_triple<'t>(
     triple: Piece<'t>,
     parse_error: Piece<'t>,
     implementations: Triples<'t>,
-) -> Result<Node<'t>, AllocError> {
-    let has_clauses = clauses.is_some();
+) -> Result<Node<'t>, AllocError>
+    ensures { IfOk result (λ n. items n ≡ leaf (triple_part clauses.entry implementations.entry) (visibility.entry ∷ type_parameters.entry ∷ (hole_if clauses.entry ++ (triple.entry ∷ parse_error.entry ∷ triple_holes implementations.entry)))) }
+{
+    let part = triple_part(&clauses, &implementations);
     let mut holes = vec![in alloc; visibility, type_parameters]?;
     match clauses {
         Some(clauses) => holes.push(clauses)?,
@@ -189,22 +213,23 @@ pub fn to_triple<'t>(
         Triples::Located { triple, error } => {
             holes.push(triple)?;
             holes.push(error)?;
-            let part = if has_clauses {
-                Part::ToTripleLocatedWhere
-            } else {
-                Part::ToTripleLocated
-            };
-            Node::leaf(alloc, part, holes)
         }
         Triples::Plain { token, error } => {
             holes.push(token)?;
             holes.push(error)?;
-            let part = if has_clauses {
-                Part::ToTriplePlainWhere
-            } else {
-                Part::ToTriplePlain
-            };
-            Node::leaf(alloc, part, holes)
         }
+    }
+    Node::leaf(alloc, part, holes)
+}
+
+/// How items become triples, with clauses or without.
+fn triple_part(clauses: &Option<Piece<'_>>, implementations: &Triples<'_>) -> Part
+    ensures { result ≡ triple_part clauses.now implementations.now }
+{
+    match (clauses, implementations) {
+        (Some(_), Triples::Located { .. }) => Part::ToTripleLocatedWhere,
+        (None, Triples::Located { .. }) => Part::ToTripleLocated,
+        (Some(_), Triples::Plain { .. }) => Part::ToTriplePlainWhere,
+        (None, Triples::Plain { .. }) => Part::ToTriplePlain,
     }
 }

@@ -1,7 +1,10 @@
 //! Function headers, and parsers with their `parse` method.
 
-ghost use Rattle.std.specs.Prelude.{◌≡◌, [], IfOk, if◌then◌else◌};
-ghost use Rattle.lp_tree.specs.ProgramTree.{items, leaf};
+ghost use Rattle.std.specs.Prelude.{◌≡◌, [], ◌∷◌, ◌++◌, IfOk, OnOk, if◌then◌else◌};
+ghost use Rattle.std.specs.List.{flat_map, list_any};
+ghost use Rattle.lp_build.specs.Built.{text_rows};
+ghost use Rattle.lp_build.specs.Functions.{clause_lines, name_holes, name_part, parser_part, result_line};
+ghost use Rattle.lp_tree.specs.ProgramTree.{head, is_part, items, leaf, parts_below};
 
 use super::{add_texts, bare, text_row};
 use lp_form::Part;
@@ -30,7 +33,10 @@ pub enum FunctionName<'t> {
 }
 
 /// The line that begins a header.
-fn header_line<'t>(alloc: Global, name: FunctionName<'t>) -> Result<Node<'t>, AllocError> {
+fn header_line<'t>(alloc: Global, name: FunctionName<'t>) -> Result<Node<'t>, AllocError>
+    ensures head { IfOk result (λ n. head n ≡ (name_part name.entry, name_holes name.entry, [])) }
+    ensures below { IfOk result (λ n. parts_below n ≡ []) }
+{
     match name {
         FunctionName::Parse { visibility } => text_row(alloc, Part::HeaderParse, visibility),
         FunctionName::ExpectedTokensFromStates => bare(alloc, Part::HeaderExpectedFromStates),
@@ -60,21 +66,44 @@ pub fn header<'t>(
     parameters: Vec<Piece<'t>>,
     answer: Piece<'t>,
     clauses: Vec<Piece<'t>>,
-) -> Result<Node<'t>, AllocError> {
+) -> Result<Node<'t>, AllocError>
+    ensures head { IfOk result (λ n. head n ≡ (name_part name.entry, name_holes name.entry, [])) }
+    ensures below { IfOk result (λ n. parts_below n ≡ ((text_rows Part.TypeRow type_parameters.entry.items ++ text_rows Part.ParameterRow parameters.entry.items) ++ result_line answer.entry) ++ clause_lines clauses.entry.items) }
+{
     let mut node = header_line(alloc, name)?;
     add_texts(alloc, &mut node, Part::TypeRow, type_parameters)?;
     add_texts(alloc, &mut node, Part::ParameterRow, parameters)?;
-    if answer.as_str() == "()" {
-        node.add(bare(alloc, Part::ResultUnit)?)?;
-    } else {
-        node.add(text_row(alloc, Part::ResultType, answer)?)?;
-    }
-    if !clauses.is_empty() {
-        let mut list = bare(alloc, Part::Clauses)?;
-        add_texts(alloc, &mut list, Part::ClauseRow, clauses)?;
-        node.add(list)?;
-    }
+    node.add(result_line(alloc, answer)?)?;
+    add_clauses(alloc, &mut node, clauses)?;
     Ok(node)
+}
+
+/// The line of a result; `()` prints none.
+fn result_line<'t>(alloc: Global, answer: Piece<'t>) -> Result<Node<'t>, AllocError>
+    ensures { IfOk result (λ n. items n ≡ result_line answer.entry) }
+{
+    if answer.as_str() == "()" {
+        bare(alloc, Part::ResultUnit)
+    } else {
+        text_row(alloc, Part::ResultType, answer)
+    }
+}
+
+/// Puts where clauses below the node, if there are some.
+fn add_clauses<'t>(
+    alloc: Global,
+    node: &mut Node<'t>,
+    clauses: Vec<Piece<'t>>,
+) -> Result<(), AllocError>
+    ensures head { head node.new ≡ head node.old }
+    ensures below { OnOk result (parts_below node.new ≡ parts_below node.old ++ clause_lines clauses.entry.items) }
+{
+    if clauses.is_empty() {
+        return Ok(());
+    }
+    let mut list = bare(alloc, Part::Clauses)?;
+    add_texts(alloc, &mut list, Part::ClauseRow, clauses)?;
+    node.add(list)
 }
 
 /// Form 9: a parser: the visibility of its rule, its public name, and whether the grammar is
@@ -85,19 +114,12 @@ pub fn parser<'t>(
     public_name: Name<'t>,
     interned: bool,
     below: Vec<Node<'t>>,
-) -> Result<Node<'t>, AllocError> {
-    let mut ascent = false;
-    for child in &below {
-        if child.is(Part::Start) {
-            ascent = true;
-        }
-    }
-    let part = match (ascent, interned) {
-        (false, true) => Part::TableParserInterned,
-        (false, false) => Part::TableParserPlain,
-        (true, true) => Part::AscentParserInterned,
-        (true, false) => Part::AscentParserPlain,
-    };
+) -> Result<Node<'t>, AllocError>
+    ensures head { IfOk result (λ n. head n ≡ (parser_part (list_any (is_part Part.Start) below.entry.items) interned, visibility.entry ∷ public_name.entry ∷ [], [])) }
+    ensures below { IfOk result (λ n. parts_below n ≡ flat_map items below.entry.items) }
+{
+    let ascent = below.iter().any(|child| child.is(Part::Start));
+    let part = parser_part(ascent, interned);
     let mut node = Node::leaf(
         alloc,
         part,
@@ -105,6 +127,18 @@ pub fn parser<'t>(
     )?;
     node.add_all(below)?;
     Ok(node)
+}
+
+/// The parser by tables or by recursive ascent, of tokens that are interned or handed in.
+fn parser_part(ascent: bool, interned: bool) -> Part
+    ensures { result ≡ parser_part ascent interned }
+{
+    match (ascent, interned) {
+        (false, true) => Part::TableParserInterned,
+        (false, false) => Part::TableParserPlain,
+        (true, true) => Part::AscentParserInterned,
+        (true, false) => Part::AscentParserPlain,
+    }
 }
 
 /// Form 10: where the tokens come from.

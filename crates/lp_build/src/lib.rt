@@ -11,8 +11,11 @@ mod machine;
 mod reductions;
 mod table;
 
-ghost use Rattle.std.specs.Prelude.{◌≡◌, [], ◌∷◌, IfOk};
-ghost use Rattle.lp_tree.specs.ProgramTree.{items, leaf};
+ghost use Rattle.std.specs.Prelude.{◌≡◌, [], ◌∷◌, ◌++◌, map, codes, string_bytes, IfOk, OnOk};
+ghost use Rattle.std.specs.Fmt.{decimal};
+ghost use Rattle.std.specs.List.{flat_map};
+ghost use Rattle.lp_tree.specs.ProgramTree.{head, items, leaf, parts_below};
+ghost use Rattle.lp_build.specs.Built.{barred, text_if, text_rows};
 
 pub use action::{ActionBody, InlineCall, InlineSpan, OuterCall, action_fn};
 pub use ascent::{
@@ -36,6 +39,7 @@ pub use reductions::{
     Produced, ReduceArm, ReduceCall, mismatch, pop, reduce, reduce_body, reduce_fn,
 };
 use std::alloc::{AllocError, Global};
+use std::borrow::CowStr;
 pub use table::{
     GotoArm, IntegerArm, StateRange, Variant, action_lookup, action_table, eof_table, expected,
     expected_from_states, goto_fn, goto_match, goto_one, symbol_arm, symbol_enum, terminal_list,
@@ -44,7 +48,9 @@ pub use table::{
 
 /// A part of one text.
 fn text_row<'t>(alloc: Global, part: Part, text: Piece<'t>) -> Result<Node<'t>, AllocError>
-    ensures { IfOk result (λ n. items n ≡ leaf part (text.entry ∷ [])) }
+    ensures items { IfOk result (λ n. items n ≡ leaf part (text.entry ∷ [])) }
+    ensures head { IfOk result (λ n. head n ≡ (part, text.entry ∷ [], [])) }
+    ensures below { IfOk result (λ n. parts_below n ≡ []) }
 {
     Node::leaf(alloc, part, vec![in alloc; text]?)
 }
@@ -55,7 +61,10 @@ fn add_texts<'t>(
     node: &mut Node<'t>,
     part: Part,
     texts: Vec<Piece<'t>>,
-) -> Result<(), AllocError> {
+) -> Result<(), AllocError>
+    ensures head { head node.new ≡ head node.old }
+    ensures below { OnOk result (parts_below node.new ≡ parts_below node.old ++ text_rows part texts.entry.items) }
+{
     for text in texts {
         node.add(text_row(alloc, part, text)?)?;
     }
@@ -68,7 +77,10 @@ fn add_names<'t>(
     node: &mut Node<'t>,
     part: Part,
     names: Vec<Name<'t>>,
-) -> Result<(), AllocError> {
+) -> Result<(), AllocError>
+    ensures head { head node.new ≡ head node.old }
+    ensures below { OnOk result (parts_below node.new ≡ parts_below node.old ++ text_rows part names.entry.items) }
+{
     for name in names {
         node.add(text_row(alloc, part, name.into_piece())?)?;
     }
@@ -81,7 +93,10 @@ fn add_numbers<'t>(
     node: &mut Node<'t>,
     part: Part,
     numbers: &[u64],
-) -> Result<(), AllocError> {
+) -> Result<(), AllocError>
+    ensures head { head node.new ≡ head node.old }
+    ensures below { OnOk result (parts_below node.new ≡ parts_below node.old ++ text_rows part (map decimal numbers.now)) }
+{
     for number in numbers {
         node.add(text_row(alloc, part, Piece::number(alloc, *number)?)?)?;
     }
@@ -90,7 +105,9 @@ fn add_numbers<'t>(
 
 /// A part with nothing in it.
 fn bare<'t>(alloc: Global, part: Part) -> Result<Node<'t>, AllocError>
-    ensures { IfOk result (λ n. items n ≡ leaf part []) }
+    ensures items { IfOk result (λ n. items n ≡ leaf part []) }
+    ensures head { IfOk result (λ n. head n ≡ (part, [], [])) }
+    ensures below { IfOk result (λ n. parts_below n ≡ []) }
 {
     Node::leaf(alloc, part, Vec::new(alloc))
 }
@@ -101,9 +118,38 @@ fn add_text<'t>(
     node: &mut Node<'t>,
     part: Part,
     text: Option<Piece<'t>>,
-) -> Result<(), AllocError> {
+) -> Result<(), AllocError>
+    ensures head { head node.new ≡ head node.old }
+    ensures below { OnOk result (parts_below node.new ≡ parts_below node.old ++ text_if part text.entry) }
+{
     match text {
         None => Ok(()),
         Some(text) => node.add(text_row(alloc, part, text)?),
     }
+}
+
+/// The texts joined by ` | `.
+fn barred<'t>(alloc: Global, texts: &[Piece<'_>]) -> Result<Piece<'t>, AllocError>
+    ensures { IfOk result (λ p. p ≡ barred texts.now) }
+{
+    let mut text = String::new(alloc);
+    match texts.split_first() {
+        None => {}
+        Some((first, rest)) => {
+            text.push_str(first.as_str())?;
+            push_after_bars(&mut text, rest)?;
+        }
+    }
+    Ok(Piece::new(CowStr::Owned(text)))
+}
+
+/// Appends the texts, each after ` | `.
+fn push_after_bars(text: &mut String, pieces: &[Piece<'_>]) -> Result<(), AllocError>
+    ensures { OnOk result (string_bytes text.new ≡ string_bytes text.old ++ flat_map (λ piece. codes " | " ++ piece) pieces.now) }
+{
+    for piece in pieces {
+        text.push_str(" | ")?;
+        text.push_str(piece.as_str())?;
+    }
+    Ok(())
 }

@@ -1,10 +1,17 @@
 //! The struct that the driver asks.
 
+ghost use Rattle.std.specs.Prelude.{◌≡◌, [], ◌∷◌, ◌++◌, map, IfOk};
+ghost use Rattle.std.specs.List.{flat_map};
+ghost use Rattle.lp_build.specs.Built.{text_rows};
+ghost use Rattle.lp_build.specs.Machine.{field_row, last_terminal, recovery_lines, simulate_row};
+ghost use Rattle.lp_tree.specs.ProgramTree.{head, items, parts_below};
+
 use super::{add_names, bare, text_row};
 use lp_form::Part;
 use lp_tree::piece::{Name, Piece};
 use lp_tree::tree::{Node, Reduced};
 use std::alloc::{AllocError, Global};
+use std::borrow::CowStr;
 
 /// A field of the machine.
 #[derive(Drop)]
@@ -21,7 +28,10 @@ pub fn machine_struct<'t>(
     clauses: Piece<'t>,
     fields: Vec<Field<'t>>,
     phantom: Piece<'t>,
-) -> Result<Node<'t>, AllocError> {
+) -> Result<Node<'t>, AllocError>
+    ensures head { IfOk result (λ n. head n ≡ (Part.MachineStruct, type_parameters.entry ∷ clauses.entry ∷ phantom.entry ∷ [], [])) }
+    ensures below { IfOk result (λ n. parts_below n ≡ map field_row fields.entry.items) }
+{
     let holes = vec![in alloc; type_parameters, clauses, phantom]?;
     let mut node = Node::leaf(alloc, Part::MachineStruct, holes)?;
     for field in fields {
@@ -36,18 +46,22 @@ pub fn machine_struct<'t>(
 }
 
 /// The number of the last of so many terminals, as it is printed.
-fn last_terminal<'t>(alloc: Global, terminals: u64) -> Result<Piece<'t>, AllocError> {
-    if terminals <= 1 {
+fn last_terminal<'t>(alloc: Global, terminals: u64) -> Result<Piece<'t>, AllocError>
+    ensures { IfOk result (λ p. p ≡ last_terminal terminals) }
+{
+    if terminals == 0 || terminals == 1 {
         return Piece::number(alloc, 0);
     }
     let count = Piece::number(alloc, terminals)?;
     let mut text = String::from_str(alloc, count.as_str())?;
     text.push_str(" - 1")?;
-    Ok(Piece::new(std::borrow::CowStr::Owned(text)))
+    Ok(Piece::new(CowStr::Owned(text)))
 }
 
 /// The two methods on error recovery.
-fn recovery_methods<'t>(alloc: Global, recovery: Option<Name<'t>>) -> Result<Node<'t>, AllocError> {
+fn recovery_methods<'t>(alloc: Global, recovery: Option<Name<'t>>) -> Result<Node<'t>, AllocError>
+    ensures { IfOk result (λ n. items n ≡ recovery_lines recovery.entry) }
+{
     match recovery {
         Some(variant) => text_row(alloc, Part::RecoveryOn, variant.into_piece()),
         None => bare(alloc, Part::RecoveryOff),
@@ -72,7 +86,10 @@ pub fn machine_impl<'t>(
     terminals: u64,
     recovery: Option<Name<'t>>,
     parameters: Vec<Name<'t>>,
-) -> Result<Node<'t>, AllocError> {
+) -> Result<Node<'t>, AllocError>
+    ensures head { IfOk result (λ n. head n ≡ (Part.MachineImpl, type_parameters.entry ∷ clauses.entry ∷ location.entry ∷ error.entry ∷ token.entry ∷ symbol_parameters.entry ∷ success.entry ∷ state_type.entry ∷ phantom.entry ∷ last_terminal terminals ∷ [], [])) }
+    ensures below { IfOk result (λ n. parts_below n ≡ recovery_lines recovery.entry ++ text_rows Part.SelfRow parameters.entry.items) }
+{
     let last = last_terminal(alloc, terminals)?;
     let state_type = state_type.into_piece();
     let mut holes = vec![in alloc; type_parameters, clauses, location, error, token]?;
@@ -96,7 +113,9 @@ pub struct SimulateArm<'t> {
 }
 
 /// One arm of `simulate_reduce`.
-fn simulate_row<'t>(alloc: Global, arm: SimulateArm<'t>) -> Result<Node<'t>, AllocError> {
+fn simulate_row<'t>(alloc: Global, arm: SimulateArm<'t>) -> Result<Node<'t>, AllocError>
+    ensures { IfOk result (λ n. items n ≡ simulate_row arm.entry ∷ []) }
+{
     let SimulateArm {
         production,
         reduced,
@@ -124,7 +143,10 @@ pub fn simulate_reduce<'t>(
     alloc: Global,
     arms: Vec<SimulateArm<'t>>,
     below: Vec<Node<'t>>,
-) -> Result<Node<'t>, AllocError> {
+) -> Result<Node<'t>, AllocError>
+    ensures head { IfOk result (λ n. head n ≡ (Part.SimulateReduce, [], [])) }
+    ensures below { IfOk result (λ n. parts_below n ≡ flat_map items below.entry.items ++ map simulate_row arms.entry.items) }
+{
     let mut node = bare(alloc, Part::SimulateReduce)?;
     node.add_all(below)?;
     for arm in arms {
@@ -138,7 +160,10 @@ pub fn drive<'t>(
     alloc: Global,
     parameters: Vec<Name<'t>>,
     phantom: Piece<'t>,
-) -> Result<Node<'t>, AllocError> {
+) -> Result<Node<'t>, AllocError>
+    ensures head { IfOk result (λ n. head n ≡ (Part.Drive, phantom.entry ∷ [], [])) }
+    ensures below { IfOk result (λ n. parts_below n ≡ text_rows Part.DriveRow parameters.entry.items) }
+{
     let mut node = text_row(alloc, Part::Drive, phantom)?;
     add_names(alloc, &mut node, Part::DriveRow, parameters)?;
     Ok(node)
@@ -149,7 +174,10 @@ pub fn accepts<'t>(
     alloc: Global,
     phantom: Piece<'t>,
     below: Vec<Node<'t>>,
-) -> Result<Node<'t>, AllocError> {
+) -> Result<Node<'t>, AllocError>
+    ensures head { IfOk result (λ n. head n ≡ (Part.Accepts, phantom.entry ∷ [], [])) }
+    ensures below { IfOk result (λ n. parts_below n ≡ flat_map items below.entry.items) }
+{
     let mut node = text_row(alloc, Part::Accepts, phantom)?;
     node.add_all(below)?;
     Ok(node)

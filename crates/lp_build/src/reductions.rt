@@ -1,7 +1,10 @@
 //! Reductions of the table-driven code.
 
-ghost use Rattle.std.specs.Prelude.{◌≡◌, [], IfOk};
-ghost use Rattle.lp_tree.specs.ProgramTree.{items, leaf};
+ghost use Rattle.std.specs.Prelude.{◌≡◌, [], ◌∷◌, ◌++◌, IfOk};
+ghost use Rattle.std.specs.List.{flat_map};
+ghost use Rattle.lp_build.specs.Built.{text_if, text_rows};
+ghost use Rattle.lp_build.specs.Reductions.{outcome_of, span_of};
+ghost use Rattle.lp_tree.specs.ProgramTree.{head, items, leaf, parts_below};
 
 use super::{add_text, add_texts, bare, text_row};
 use lp_form::Part;
@@ -103,7 +106,9 @@ fn add_pops<'t>(
 }
 
 /// The lines that find the span of so many symbols.
-fn span_lines<'t>(alloc: Global, symbols: usize) -> Result<Node<'t>, AllocError> {
+fn span_lines<'t>(alloc: Global, symbols: usize) -> Result<Node<'t>, AllocError>
+    ensures { IfOk result (λ n. items n ≡ span_of symbols) }
+{
     if symbols == 0 {
         return bare(alloc, Part::SpanEmpty);
     }
@@ -117,7 +122,9 @@ fn outcome_lines<'t>(
     alloc: Global,
     symbols: usize,
     produced: Option<Produced<'t>>,
-) -> Result<Node<'t>, AllocError> {
+) -> Result<Node<'t>, AllocError>
+    ensures { IfOk result (λ n. items n ≡ outcome_of symbols produced.entry) }
+{
     match produced {
         None => bare(alloc, Part::OutcomeStart),
         Some(produced) => {
@@ -187,7 +194,10 @@ pub fn pop<'t>(
     symbol_parameters: Piece<'t>,
     ty: Piece<'t>,
     clauses: Option<Piece<'t>>,
-) -> Result<Node<'t>, AllocError> {
+) -> Result<Node<'t>, AllocError>
+    ensures head { IfOk result (λ n. head n ≡ (Part.Pop, variant.entry ∷ location.entry ∷ symbol_parameters.entry ∷ ty.entry ∷ [], [])) }
+    ensures below { IfOk result (λ n. parts_below n ≡ text_rows Part.PopRow type_parameters.entry.items ++ text_if Part.WhereLine clauses.entry) }
+{
     let holes = vec![in alloc; variant.into_piece(), location, symbol_parameters, ty]?;
     let mut node = Node::leaf(alloc, Part::Pop, holes)?;
     add_texts(alloc, &mut node, Part::PopRow, type_parameters)?;
@@ -196,7 +206,10 @@ pub fn pop<'t>(
 }
 
 /// Form 33: the function of one production. Below it: the header and the body.
-pub fn reduce_fn<'t>(alloc: Global, below: Vec<Node<'t>>) -> Result<Node<'t>, AllocError> {
+pub fn reduce_fn<'t>(alloc: Global, below: Vec<Node<'t>>) -> Result<Node<'t>, AllocError>
+    ensures head { IfOk result (λ n. head n ≡ (Part.ReduceFn, [], [])) }
+    ensures below { IfOk result (λ n. parts_below n ≡ flat_map items below.entry.items) }
+{
     let mut node = bare(alloc, Part::ReduceFn)?;
     node.add_all(below)?;
     Ok(node)

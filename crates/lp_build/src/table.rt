@@ -1,14 +1,18 @@
 //! Tables, and what looks them up.
 
-ghost use Rattle.std.specs.Prelude.{◌≡◌, [], ◌∷◌, IfOk};
+ghost use Rattle.std.specs.Prelude.{◌≡◌, ◌==◌, [], ◌∷◌, ◌++◌, map, IfOk, if◌then◌else◌};
 ghost use Rattle.std.specs.Fmt.{decimal};
-ghost use Rattle.lp_tree.specs.ProgramTree.{items, leaf};
+ghost use Rattle.std.specs.List.{flat_map};
+ghost use Rattle.lp_build.specs.Built.{over, row, text_if, text_rows};
+ghost use Rattle.lp_build.specs.Tables.{goto_row, integer_row, range_text, symbol_row, variant_row};
+ghost use Rattle.lp_tree.specs.ProgramTree.{head, items, leaf, parts_below};
 
-use super::{add_text, add_texts, bare, text_row};
+use super::{add_text, add_texts, bare, barred, text_row};
 use lp_form::Part;
 use lp_tree::piece::{Name, Piece};
 use lp_tree::tree::{Node, RowNote};
 use std::alloc::{AllocError, Global};
+use std::borrow::CowStr;
 
 /// A variant of the symbol enum.
 #[derive(Drop)]
@@ -23,7 +27,10 @@ pub fn symbol_enum<'t>(
     type_parameters: Piece<'t>,
     clauses: Option<Piece<'t>>,
     variants: Vec<Variant<'t>>,
-) -> Result<Node<'t>, AllocError> {
+) -> Result<Node<'t>, AllocError>
+    ensures head { IfOk result (λ n. head n ≡ (Part.SymbolEnum, type_parameters.entry ∷ [], [])) }
+    ensures below { IfOk result (λ n. parts_below n ≡ text_if Part.WhereLine clauses.entry ++ map variant_row variants.entry.items) }
+{
     let mut node = text_row(alloc, Part::SymbolEnum, type_parameters)?;
     add_text(alloc, &mut node, Part::WhereLine, clauses)?;
     for variant in variants {
@@ -44,7 +51,10 @@ fn table<'t>(
     state_type: Name<'t>,
     entries: Vec<i32>,
     notes: Vec<RowNote<'t>>,
-) -> Result<Node<'t>, AllocError> {
+) -> Result<Node<'t>, AllocError>
+    ensures head { IfOk result (λ n. head n ≡ (part, state_type.entry ∷ [], entries.items)) }
+    ensures below { IfOk result (λ n. parts_below n ≡ []) }
+{
     let mut node = text_row(alloc, part, state_type.into_piece())?;
     node.fill(entries, notes);
     Ok(node)
@@ -57,7 +67,10 @@ pub fn action_table<'t>(
     state_type: Name<'t>,
     entries: Vec<i32>,
     notes: Vec<RowNote<'t>>,
-) -> Result<Node<'t>, AllocError> {
+) -> Result<Node<'t>, AllocError>
+    ensures head { IfOk result (λ n. head n ≡ (Part.ActionTable, state_type.entry ∷ [], entries.items)) }
+    ensures below { IfOk result (λ n. parts_below n ≡ []) }
+{
     table(alloc, Part::ActionTable, state_type, entries, notes)
 }
 
@@ -66,7 +79,9 @@ pub fn action_lookup<'t>(
     alloc: Global,
     state_type: Name<'t>,
     terminals: u64,
-) -> Result<Node<'t>, AllocError> {
+) -> Result<Node<'t>, AllocError>
+    ensures { IfOk result (λ n. items n ≡ if terminals == 1 then leaf Part.ActionLookupOne (state_type.entry ∷ []) else leaf Part.ActionLookup (state_type.entry ∷ decimal terminals ∷ [])) }
+{
     let state_type = state_type.into_piece();
     if terminals == 1 {
         return text_row(alloc, Part::ActionLookupOne, state_type);
@@ -85,7 +100,10 @@ pub fn eof_table<'t>(
     state_type: Name<'t>,
     entries: Vec<i32>,
     notes: Vec<RowNote<'t>>,
-) -> Result<Node<'t>, AllocError> {
+) -> Result<Node<'t>, AllocError>
+    ensures head { IfOk result (λ n. head n ≡ (Part.EofTable, state_type.entry ∷ [], entries.items)) }
+    ensures below { IfOk result (λ n. parts_below n ≡ []) }
+{
     table(alloc, Part::EofTable, state_type, entries, notes)
 }
 
@@ -94,7 +112,10 @@ pub fn goto_fn<'t>(
     alloc: Global,
     state_type: Name<'t>,
     below: Vec<Node<'t>>,
-) -> Result<Node<'t>, AllocError> {
+) -> Result<Node<'t>, AllocError>
+    ensures head { IfOk result (λ n. head n ≡ (Part.GotoFn, state_type.entry ∷ [], [])) }
+    ensures below { IfOk result (λ n. parts_below n ≡ flat_map items below.entry.items) }
+{
     let mut node = text_row(alloc, Part::GotoFn, state_type.into_piece())?;
     node.add_all(below)?;
     Ok(node)
@@ -124,32 +145,44 @@ pub struct GotoArm<'t> {
     pub note: Option<Piece<'t>>,
 }
 
-/// The ranges joined by ` | `.
-fn joined_ranges<'t>(alloc: Global, ranges: &[StateRange]) -> Result<Piece<'t>, AllocError> {
-    let mut text = String::new(alloc);
-    for (i, range) in ranges.iter().enumerate() {
-        if i > 0 {
-            text.push_str(" | ")?;
-        }
-        let first = Piece::number(alloc, range.first)?;
-        text.push_str(first.as_str())?;
-        if range.first != range.last {
-            let last = Piece::number(alloc, range.last)?;
-            text.push_str("..=")?;
-            text.push_str(last.as_str())?;
-        }
+/// One state, or the first and the last of several.
+fn range_text<'t>(alloc: Global, range: &StateRange) -> Result<Piece<'t>, AllocError>
+    ensures { IfOk result (λ p. p ≡ range_text range.now) }
+{
+    if range.first == range.last {
+        return Piece::number(alloc, range.first);
     }
-    Ok(Piece::new(std::borrow::CowStr::Owned(text)))
+    let first = Piece::number(alloc, range.first)?;
+    let last = Piece::number(alloc, range.last)?;
+    let mut text = String::new(alloc);
+    text.push_str(first.as_str())?;
+    text.push_str("..=")?;
+    text.push_str(last.as_str())?;
+    Ok(Piece::new(CowStr::Owned(text)))
+}
+
+/// The texts of ranges.
+fn range_texts<'t>(alloc: Global, ranges: &[StateRange]) -> Result<Vec<Piece<'t>>, AllocError>
+    ensures { IfOk result (λ v. v.items ≡ map range_text ranges.now) }
+{
+    let mut texts = Vec::new(alloc);
+    for range in ranges {
+        texts.push(range_text(alloc, range)?)?;
+    }
+    Ok(texts)
 }
 
 /// One arm of a nonterminal with several targets.
-fn goto_range<'t>(alloc: Global, arm: GotoArm<'t>) -> Result<Node<'t>, AllocError> {
+fn goto_range<'t>(alloc: Global, arm: GotoArm<'t>) -> Result<Node<'t>, AllocError>
+    ensures { IfOk result (λ n. items n ≡ goto_row arm.entry ∷ []) }
+{
     let GotoArm {
         states,
         target,
         note,
     } = arm;
-    let states = joined_ranges(alloc, states.as_slice())?;
+    let states = range_texts(alloc, states.as_slice())?;
+    let states = barred(alloc, states.as_slice())?;
     let target = Piece::number(alloc, target)?;
     let mut node = Node::leaf(alloc, Part::GotoRange, vec![in alloc; states, target]?)?;
     match note {
@@ -166,7 +199,10 @@ pub fn goto_match<'t>(
     nonterminal: u64,
     arms: Vec<GotoArm<'t>>,
     other: u64,
-) -> Result<Node<'t>, AllocError> {
+) -> Result<Node<'t>, AllocError>
+    ensures head { IfOk result (λ n. head n ≡ (Part.GotoMatch, decimal nonterminal ∷ decimal other ∷ [], [])) }
+    ensures below { IfOk result (λ n. parts_below n ≡ map goto_row arms.entry.items) }
+{
     let nonterminal = Piece::number(alloc, nonterminal)?;
     let other = Piece::number(alloc, other)?;
     let mut node = Node::leaf(alloc, Part::GotoMatch, vec![in alloc; nonterminal, other]?)?;
@@ -177,7 +213,10 @@ pub fn goto_match<'t>(
 }
 
 /// Form 18: the names of the terminals, without the error terminal.
-pub fn terminal_list<'t>(alloc: Global, terminals: Vec<Piece<'t>>) -> Result<Node<'t>, AllocError> {
+pub fn terminal_list<'t>(alloc: Global, terminals: Vec<Piece<'t>>) -> Result<Node<'t>, AllocError>
+    ensures head { IfOk result (λ n. head n ≡ (Part.TerminalList, [], [])) }
+    ensures below { IfOk result (λ n. parts_below n ≡ text_rows Part.TerminalRow terminals.entry.items) }
+{
     let mut node = bare(alloc, Part::TerminalList)?;
     add_texts(alloc, &mut node, Part::TerminalRow, terminals)?;
     Ok(node)
@@ -196,7 +235,10 @@ pub fn expected_from_states<'t>(
     alloc: Global,
     phantom: Piece<'t>,
     below: Vec<Node<'t>>,
-) -> Result<Node<'t>, AllocError> {
+) -> Result<Node<'t>, AllocError>
+    ensures head { IfOk result (λ n. head n ≡ (Part.ExpectedFromStates, phantom.entry ∷ [], [])) }
+    ensures below { IfOk result (λ n. parts_below n ≡ flat_map items below.entry.items) }
+{
     let mut node = text_row(alloc, Part::ExpectedFromStates, phantom)?;
     node.add_all(below)?;
     Ok(node)
@@ -214,7 +256,10 @@ pub fn token_to_integer<'t>(
     alloc: Global,
     arms: Vec<IntegerArm<'t>>,
     below: Vec<Node<'t>>,
-) -> Result<Node<'t>, AllocError> {
+) -> Result<Node<'t>, AllocError>
+    ensures head { IfOk result (λ n. head n ≡ (Part.TokenToInteger, [], [])) }
+    ensures below { IfOk result (λ n. parts_below n ≡ flat_map items below.entry.items ++ map integer_row arms.entry.items) }
+{
     let mut node = bare(alloc, Part::TokenToInteger)?;
     node.add_all(below)?;
     for arm in arms {
@@ -226,35 +271,24 @@ pub fn token_to_integer<'t>(
 }
 
 /// Form 24: the value of a token. Below it: the header and the arms.
-pub fn token_to_symbol<'t>(alloc: Global, below: Vec<Node<'t>>) -> Result<Node<'t>, AllocError> {
+pub fn token_to_symbol<'t>(alloc: Global, below: Vec<Node<'t>>) -> Result<Node<'t>, AllocError>
+    ensures head { IfOk result (λ n. head n ≡ (Part.TokenToSymbol, [], [])) }
+    ensures below { IfOk result (λ n. parts_below n ≡ flat_map items below.entry.items) }
+{
     let mut node = bare(alloc, Part::TokenToSymbol)?;
     node.add_all(below)?;
     Ok(node)
 }
 
-/// The numbers joined by ` | `.
-fn joined_numbers<'t>(alloc: Global, numbers: &[u64]) -> Result<Piece<'t>, AllocError> {
-    let mut text = String::new(alloc);
-    for (i, number) in numbers.iter().enumerate() {
-        if i > 0 {
-            text.push_str(" | ")?;
-        }
-        let digits = Piece::number(alloc, *number)?;
-        text.push_str(digits.as_str())?;
+/// Numbers in decimal digits.
+fn number_texts<'t>(alloc: Global, numbers: &[u64]) -> Result<Vec<Piece<'t>>, AllocError>
+    ensures { IfOk result (λ v. v.items ≡ map decimal numbers.now) }
+{
+    let mut texts = Vec::new(alloc);
+    for number in numbers {
+        texts.push(Piece::number(alloc, *number)?)?;
     }
-    Ok(Piece::new(std::borrow::CowStr::Owned(text)))
-}
-
-/// The texts joined by ` | `.
-fn joined_texts<'t>(alloc: Global, texts: &[Piece<'t>]) -> Result<Piece<'t>, AllocError> {
-    let mut text = String::new(alloc);
-    for (i, piece) in texts.iter().enumerate() {
-        if i > 0 {
-            text.push_str(" | ")?;
-        }
-        text.push_str(piece.as_str())?;
-    }
-    Ok(Piece::new(std::borrow::CowStr::Owned(text)))
+    Ok(texts)
 }
 
 /// Form 25: the terminals of one variant with one number of captures: their numbers, their patterns
@@ -266,13 +300,16 @@ pub fn symbol_arm<'t>(
     patterns: Vec<Piece<'t>>,
     variant: Name<'t>,
     captures: Piece<'t>,
-) -> Result<Node<'t>, AllocError> {
-    let terminals = joined_numbers(alloc, terminals)?;
+) -> Result<Node<'t>, AllocError>
+    ensures { IfOk result (λ n. items n ≡ symbol_row terminals.now patterns.entry.items variant.entry captures.entry) }
+{
+    let terminals = number_texts(alloc, terminals)?;
+    let terminals = barred(alloc, terminals.as_slice())?;
     let variant = variant.into_piece();
     if patterns.is_empty() {
         return Node::leaf(alloc, Part::SymbolArm, vec![in alloc; terminals, variant]?);
     }
-    let patterns = joined_texts(alloc, patterns.as_slice())?;
+    let patterns = barred(alloc, patterns.as_slice())?;
     Node::leaf(
         alloc,
         Part::SymbolMatch,

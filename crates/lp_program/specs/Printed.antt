@@ -77,7 +77,7 @@ list_lines options prefix es = all_lines (printed options prefix (whole es))
 
 -- the lines of a node, under the prefix of its program
 abbrev pub node_lines : Options → List ℕ → Node → List Line
-node_lines options prefix node = list_lines options prefix node.entries.items
+node_lines options prefix node = part_lines options prefix node.first node.below.items
 
 -- the lines of a program
 abbrev pub lines : Options → Program → List Line

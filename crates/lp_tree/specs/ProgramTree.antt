@@ -1,7 +1,8 @@
 -- Program trees: parts in the order of the text, each with the number of parts below it.
-use Rattle.std.specs.Prelude.{ℕ, ℤ, List, [], ◌∷◌, map}
+use Rattle.std.specs.Prelude.{ℕ, ℤ, Bool, List, [], ◌∷◌, length, map}
 use Rattle.std.specs.List.{filter_map}
 use Rattle.lp_form.specs.Forms.{form_of}
+use Rattle.lp_form.specs.contracts.part.PartPartialEq.TheImpl as equality
 use Rattle.lp_form.specs.declared.kind.FormKind.{FormKind}
 use Rattle.lp_tree.specs.declared.tree.Entry.{Entry}
 use Rattle.lp_form.specs.declared.part.Part.{Part}
@@ -23,9 +24,25 @@ Item = Part × List (List ℕ) × List ℤ × ℕ
 abbrev pub item : Entry → Item
 item e = (e.part, e.holes.items, e.numbers.items, e.below)
 
+-- what the first part of a node holds: its part, its texts, and the entries of its table
+abbrev pub head : Node → Part × List (List ℕ) × List ℤ
+head n = (n.first.part, n.first.holes.items, n.first.numbers.items)
+
+-- whether a node is that part
+abbrev pub is_part : Part → Node → Bool
+is_part part n = (equality.ghosts).eq n.first.part part
+
+-- the parts below the first one of a node
+abbrev pub parts_below : Node → List Item
+parts_below n = map item n.below.items
+
 -- the parts of a node, in the order of the text
 abbrev pub items : Node → List Item
-items n = map item n.entries.items
+items n = ((head n).0, (head n).1, (head n).2, length (parts_below n)) ∷ parts_below n
+
+-- the parts of a program, in the order of the text
+abbrev pub program_items : Program → List Item
+program_items p = map item p.entries.items
 
 -- a part with nothing below it
 abbrev pub leaf : Part → List (List ℕ) → List Item

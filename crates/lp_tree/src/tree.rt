@@ -1,7 +1,8 @@
 //! Program trees as flat lists: each part before those below it, with their number.
 
-ghost use Rattle.std.specs.Prelude.{◌≡◌, [], ◌∷◌, IfOk};
-ghost use Rattle.lp_tree.specs.ProgramTree.{items, leaf};
+ghost use Rattle.std.specs.Prelude.{◌≡◌, [], ◌++◌, map, IfOk, OnOk};
+ghost use Rattle.std.specs.List.{flat_map};
+ghost use Rattle.lp_tree.specs.ProgramTree.{head, is_part, item, items, leaf, parts_below};
 
 use crate::piece::Piece;
 use lp_form::Part;
@@ -33,7 +34,9 @@ pub struct Entry<'t> {
 /// One form, or a row of one, with all that is below it.
 #[derive(Drop)]
 pub struct Node<'t> {
-    pub entries: Vec<Entry<'t>>,
+    /// Its own part. How many are below it is set where the node is put below another.
+    pub first: Entry<'t>,
+    pub below: Vec<Entry<'t>>,
 }
 
 /// A whole program: its prefix, and its parts in the order of the text.
@@ -57,34 +60,60 @@ pub struct Reduced {
     pub nonterminal: u64,
 }
 
+/// Puts the parts of a node behind others.
+pub fn push_node<'t>(entries: &mut Vec<Entry<'t>>, node: Node<'t>) -> Result<(), AllocError>
+    ensures { OnOk result (map item entries.new.items ≡ map item entries.old.items ++ items node.entry) }
+{
+    let Node { first, mut below } = node;
+    let Entry {
+        part,
+        holes,
+        numbers,
+        notes,
+        below: _,
+    } = first;
+    entries.push(Entry {
+        part,
+        holes,
+        numbers,
+        notes,
+        below: below.len(),
+    })?;
+    entries.append(&mut below)
+}
+
 impl<'t> Node<'t> {
     /// A part with nothing below it.
     pub fn leaf(alloc: Global, part: Part, holes: Vec<Piece<'t>>) -> Result<Node<'t>, AllocError>
-        ensures { IfOk result (λ n. items n ≡ leaf part holes.entry.items) }
+        ensures items { IfOk result (λ n. items n ≡ leaf part holes.entry.items) }
+        ensures head { IfOk result (λ n. head n ≡ (part, holes.entry.items, [])) }
+        ensures below { IfOk result (λ n. parts_below n ≡ []) }
     {
-        let mut entries = Vec::new(alloc);
-        entries.push(Entry {
-            part,
-            holes,
-            numbers: Vec::new(alloc),
-            notes: Vec::new(alloc),
-            below: 0,
-        })?;
-        Ok(Node { entries })
+        Ok(Node {
+            first: Entry {
+                part,
+                holes,
+                numbers: Vec::new(alloc),
+                notes: Vec::new(alloc),
+                below: 0,
+            },
+            below: Vec::new(alloc),
+        })
     }
 
     /// Puts a node below this one, after those that are there.
-    pub fn add(&mut self, child: Node<'t>) -> Result<(), AllocError> {
-        let Node { entries } = child;
-        for entry in entries {
-            self.entries.push(entry)?;
-        }
-        self.close();
-        Ok(())
+    pub fn add(&mut self, child: Node<'t>) -> Result<(), AllocError>
+        ensures head { head self.new ≡ head self.old }
+        ensures below { OnOk result (parts_below self.new ≡ parts_below self.old ++ items child.entry) }
+    {
+        push_node(&mut self.below, child)
     }
 
     /// Puts the nodes below this one, in their order.
-    pub fn add_all(&mut self, children: Vec<Node<'t>>) -> Result<(), AllocError> {
+    pub fn add_all(&mut self, children: Vec<Node<'t>>) -> Result<(), AllocError>
+        ensures head { head self.new ≡ head self.old }
+        ensures below { OnOk result (parts_below self.new ≡ parts_below self.old ++ flat_map items children.entry.items) }
+    {
         for child in children {
             self.add(child)?;
         }
@@ -92,54 +121,43 @@ impl<'t> Node<'t> {
     }
 
     /// Puts what is below another node below this one.
-    pub fn add_below(&mut self, other: Node<'t>) -> Result<(), AllocError> {
-        let Node { entries } = other;
-        let mut first = true;
-        for entry in entries {
-            if !first {
-                self.entries.push(entry)?;
-            }
-            first = false;
-        }
-        self.close();
-        Ok(())
-    }
-
-    /// All that follows the first part is below it.
-    fn close(&mut self) {
-        let below = self.entries.len().saturating_sub(1);
-        if let Some(first) = self.entries.first_mut() {
-            first.below = below;
-        }
+    pub fn add_below(&mut self, other: Node<'t>) -> Result<(), AllocError>
+        ensures head { head self.new ≡ head self.old }
+        ensures below { OnOk result (parts_below self.new ≡ parts_below self.old ++ parts_below other.entry) }
+    {
+        let Node {
+            first: _,
+            mut below,
+        } = other;
+        self.below.append(&mut below)
     }
 
     /// Gives the first part the comment lines of a note.
-    pub fn note(&mut self, alloc: Global, lines: Vec<Piece<'t>>) -> Result<(), AllocError> {
-        let mut notes = Vec::new(alloc);
-        notes.push(RowNote {
+    pub fn note(&mut self, alloc: Global, lines: Vec<Piece<'t>>) -> Result<(), AllocError>
+        ensures { items self.new ≡ items self.old }
+    {
+        let note = RowNote {
             end: 0,
             lines,
             comments: Vec::new(alloc),
-        })?;
-        if let Some(first) = self.entries.first_mut() {
-            first.notes = notes;
-        }
+        };
+        self.first.notes = vec![in alloc; note]?;
         Ok(())
     }
 
     /// Gives the first part the entries of a table.
-    pub fn fill(&mut self, numbers: Vec<i32>, notes: Vec<RowNote<'t>>) {
-        if let Some(first) = self.entries.first_mut() {
-            first.numbers = numbers;
-            first.notes = notes;
-        }
+    pub fn fill(&mut self, numbers: Vec<i32>, notes: Vec<RowNote<'t>>)
+        ensures head { head self.new ≡ ((head self.old).0, (head self.old).1, numbers.items) }
+        ensures below { parts_below self.new ≡ parts_below self.old }
+    {
+        self.first.numbers = numbers;
+        self.first.notes = notes;
     }
 
     /// Whether the node is that part.
-    pub fn is(&self, part: Part) -> bool {
-        match self.entries.first() {
-            Some(first) => first.part == part,
-            None => false,
-        }
+    pub fn is(&self, part: Part) -> bool
+        ensures { result ≡ is_part part self.now }
+    {
+        self.first.part == part
     }
 }

@@ -43,7 +43,7 @@ pub fn print_node<W: Sink>(
 ) -> Result<(), WriteError>
     ensures { Writes (write_ending result) (writing W.told out.old) (writing W.told out.new) (node_lines (options_of out.old) prefix.now node.now) }
 {
-    print_list(alloc, prefix, node.entries.as_slice(), out)
+    print_part(alloc, prefix, &node.first, node.below.as_slice(), out)
 }
 
 /// Appends the lines of a list of parts: of its first part, with all others below it.

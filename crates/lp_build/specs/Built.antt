@@ -1,0 +1,30 @@
+-- What constructors put below a form.
+use Rattle.std.specs.Prelude.{ℕ, Bool, List, [], ◌∷◌, ◌++◌, length, map, codes, Option, Some, None, if◌then◌else◌}
+use Rattle.std.specs.List.{join_by}
+use Rattle.lp_form.specs.declared.part.Part.{Part}
+use Rattle.lp_tree.specs.ProgramTree.{Item, leaf}
+
+-- a part with these texts, and with these parts below it
+abbrev pub over : Part → List (List ℕ) → List Item → List Item
+over part holes below = (part, holes, [], length below) ∷ below
+
+-- a row of these texts
+abbrev pub row : Part → List (List ℕ) → Item
+row part texts = (part, texts, [], 0)
+
+-- a row of one text for each text
+abbrev pub text_rows : Part → List (List ℕ) → List Item
+text_rows part texts = map (λ text. row part (text ∷ [])) texts
+
+-- a part of one text, where there is a text
+abbrev pub text_if : Part → Option (List ℕ) → List Item
+text_if part None = []
+text_if part (Some text) = leaf part (text ∷ [])
+
+-- a part with nothing in it, where it is asked for
+abbrev pub leaf_if : Bool → Part → List Item
+leaf_if asked part = if asked then leaf part [] else []
+
+-- texts with ` | ` between each two
+abbrev pub barred : List (List ℕ) → List ℕ
+barred texts = join_by (λ text. text) (codes " | ") texts
