@@ -1,0 +1,16 @@
+use Rattle.std.proofs.Common.{◌≡◌, [], sym, ap, ◌∙◌}
+use Rattle.lp_states.proofs.AskingLemmas.{grows_both}
+use Rattle.lp_states.proofs.AskingSteps.{spread_all}
+use Rattle.lp_states.proofs.closure.Closing.spread.Goals as goal
+
+pub loop-init : goal.loop-init
+loop-init c = record { work = c.requires.work; grows = λ n s e. (s, e, λ t h. h); sound = λ kernel h. h }
+
+pub loop-preserved : goal.loop-preserved
+loop-preserved c =
+    let now = c.in_ok-spread_one.ensures in
+    record {
+      work = now.work;
+      grows = grows_both _ _ _ c.loop.invariant.grows now.grows;
+      sound = λ kernel h. now.sound kernel (c.loop.invariant.sound kernel h)
+    }
