@@ -21,14 +21,14 @@ pub record BegunBelow (rules : List Rule) (start k : ℕ) (kernel : ItemMap) : T
 module _ (rules : List Rule) (start : ℕ) where
   pub begun_none : (k : ℕ) (kernel : ItemMap) → ((p d : ℕ) → lookaheads_at kernel p d ≡ None) → ((p : ℕ) → HasLeft rules p start → k ≤ p) → BegunBelow rules start k kernel
   begun_none k kernel none from = record {
-    cores = λ p d. (λ h. let e : IsSome {A = TokenSet} None = subst (λ (o : Option TokenSet). IsSome o) (none p d) h in cc, λ h. absurd (omega (arith, h.0, from p h.1.0)));
+    cores = λ p d. (λ h. let e : IsSome {T = TokenSet} None = subst (λ (o : Option TokenSet). IsSome o) (none p d) h in cc, λ h. absurd (omega (arith, h.0, from p h.1.0)));
     lookaheads = λ p d t. (λ h. absurd (none-some h.0 (sym (none p d) ∙ h.1)), λ h. absurd (omega (arith, h.0, from p h.1.0)));
   }
 
   pub begun_all : (k : ℕ) (kernel : ItemMap) → ((p : ℕ) → HasLeft rules p start → p < k) → BegunBelow rules start k kernel → IsStartKernel rules start kernel
   begun_all k kernel below h = record {
     cores = λ p d. (λ s. ((h.cores p d).0 s).1, λ b. (h.cores p d).1 (below p b.0, b));
-    lookaheads = λ p d t. (λ s. ((h.lookaheads p d t).0 s).1, λ b. (h.lookaheads p d t).1 (below p b.0.0, b));
+    lookaheads = λ p d t. (λ s. let w = (h.lookaheads p d t).0 s in (w.1, w.2), λ b. (h.lookaheads p d t).1 (below p b.0.0, b.0, b.1));
   }
 
   module _ (k : ℕ) (old new : ItemMap) (v : TokenSet) (ends : (t : Token) → HasToken v t ↔ (t ≡ Eof)) (put : IsPut item_cmp old new (k, 0) v) (left : HasLeft rules k start) (so_far : BegunBelow rules start k old) where
@@ -40,7 +40,7 @@ module _ (rules : List Rule) (start : ℕ) where
     there p d e f = ap (λ (m : ℕ). lookaheads_at new m d) e ∙ ap (λ (m : ℕ). lookaheads_at new k m) f ∙ put_there old new k v put
 
     begun_there : (p d : ℕ) → p ≡ k → d ≡ 0 → (p < k + 1) × IsBegun rules start p d
-    begun_there p d e f = (omega arith, subst (λ m. HasLeft rules m start) (sym e) left, f)
+    begun_there p d e f = (omega arith, (subst (λ m. HasLeft rules m start) (sym e) left, f))
 
     below_from : (p d : ℕ) → ((k ≡ p) → (d ≡ 0) → ⊥) → p < k + 1 → d ≡ 0 → p < k
     below_from p d other l f =
@@ -52,7 +52,7 @@ module _ (rules : List Rule) (start : ℕ) where
 
     lookaheads_more : (p d : ℕ) (t : Token) → StandsOn new p d t ↔ ((p < k + 1) × IsBegun rules start p d × (t ≡ Eof))
     lookaheads_more p d t =
-        ⊎_elim (λ w. let b = begun_there p d w.0 w.1 in (λ h. (b.0, b.1, (ends t).0 (subst (λ s. HasToken s t) (same_Some h.0 v (sym h.1 ∙ there p d w.0 w.1)) h.2)), λ h. (v, there p d w.0 w.1, (ends t).1 h.2))) (λ (other : (k ≡ p) → (d ≡ 0) → ⊥). let same = put_elsewhere old new k v put p d other in (λ h. let w = (so_far.lookaheads p d t).0 (h.0, sym same ∙ h.1, h.2) in let l : p < k = w.0 in (omega arith, w.1), λ h. let w = (so_far.lookaheads p d t).1 (below_from p d other h.0 h.1.1, h.1, h.2) in (w.0, same ∙ w.1, w.2))) (place_cases p d)
+        ⊎_elim (λ w. let b = begun_there p d w.0 w.1 in (λ h. (b.0, b.1, (ends t).0 (subst (λ s. HasToken s t) (same_Some h.0 v (sym h.1 ∙ there p d w.0 w.1)) h.2)), λ h. (v, there p d w.0 w.1, (ends t).1 h.2))) (λ (other : (k ≡ p) → (d ≡ 0) → ⊥). let same = put_elsewhere old new k v put p d other in (λ h. let w = (so_far.lookaheads p d t).0 (h.0, sym same ∙ h.1, h.2) in let l : p < k = w.0 in (omega arith, w.1, w.2), λ h. let w = (so_far.lookaheads p d t).1 (below_from p d other h.0 h.1.1, h.1, h.2) in (w.0, same ∙ w.1, w.2))) (place_cases p d)
 
     pub begun_more : BegunBelow rules start (k + 1) new
     begun_more = record { cores = cores_more; lookaheads = lookaheads_more }

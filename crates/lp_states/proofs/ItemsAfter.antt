@@ -1,5 +1,5 @@
 -- The items after a path, as maps.
-use Rattle.std.proofs.Common.{◌≡◌, ◌≢◌, ℕ, zero, suc, ◌+◌, ◌<◌, ◌≤◌, ◌↔◌, ◌⊎◌, List, [], ◌∷◌, length, Option, Some, None, IsSome, slice_get, refl, sym, ap, ◌∙◌, ⊎_elim, inl, inr, subst, add-one, zero-le, arith}
+use Rattle.std.proofs.Common.{◌≡◌, ◌≢◌, ℕ, zero, suc, ◌+◌, ◌<◌, ◌≤◌, ◌↔◌, ◌⊎◌, List, [], ◌∷◌, length, Option, Some, None, IsSome, slice_get, refl, sym, ap, ◌∙◌, ⊎_elim, inl, inr, subst, add-one, arith}
 use Rattle.std.specs.Option.{option_and_then}
 use Rattle.std.specs.BTreeMap as tree
 use Rattle.std.proofs.lemmas.Map.Lookups.{btree_map_from_get}
@@ -70,7 +70,7 @@ module _ (rules : List Rule) (start : ℕ) where
 
   closure_in_range : (G : ℕ → ℕ → Type 0) → ((p d : ℕ) → G p d → InRange p d) → (p d : ℕ) → InClosure rules G p d → InRange p d
   closure_in_range G f p d (core_given p' d' g) = f p' d' g
-  closure_in_range G f q z (opened p d n q' c e l) = (l.0, l.1, zero-le (length l.0.right))
+  closure_in_range G f q z (opened p d n q' c e l) = (l.0, l.1, omega arith)
 
   moved_in_range : (x : SymbolNumber) (Items : ℕ → ℕ → Type 0) (p d : ℕ) → Moved rules x Items p d → InRange p d
   moved_in_range x Items p d m =

@@ -17,6 +17,7 @@ pub mod LeadingAlike
 pub mod MovedSteps
 pub mod Named
 pub mod NamingSteps
+pub mod NotedStates
 pub mod PathOrder
 pub mod Puts
 pub mod RangeLemmas

@@ -57,7 +57,7 @@ module _ (rules : List Rule) (items : ItemMap) (ordered : tree.IsOrdered item_cm
   }
 
   module _ (p e : ℕ) (s : TokenSet) (here : lookaheads_at items p e ≡ Some s) (left : List Entry) (found : BTreeMap SymbolNumber ItemMap) (so_far : MovedSoFar rules items (((p, e), s) ∷ left) found) where
-    same_set : (q f : ℕ) (t : TokenSet) → lookaheads_at items q f ≡ Some t → ((p, e), s) ≡ ((q, f), t) → (p ≡ q) × (e ≡ f) × (s ≡ t)
+    same_set : (q f : ℕ) (t : TokenSet) → lookaheads_at items q f ≡ Some t → ◌≡◌ {A = Entry} ((p, e), s) ((q, f), t) → (p ≡ q) × (e ≡ f) × (s ≡ t)
     same_set q f t at h = (ap (λ (x : Entry). x.0.0) h, ap (λ (x : Entry). x.0.1) h, ap (λ (x : Entry). x.1) h)
 
     -- an item that is not moved
@@ -66,7 +66,7 @@ module _ (rules : List Rule) (items : ItemMap) (ordered : tree.IsOrdered item_cm
       ordered = so_far.ordered;
       each_ordered = so_far.each_ordered;
       some = so_far.some;
-      all = λ y q f t at n. ⊎_elim (λ (c : Contains (((p, e), s) ∷ left) ((q, f), t)). ⊎_elim (λ (h : ((p, e), s) ≡ ((q, f), t)). let w = same_set q f t at h in absurd (complete y (same_pair p e q f w.0 w.1 (λ (z : ℕ × ℕ). next_symbol rules z.0 z.1) ∙ n))) (λ (d : Contains left ((q, f), t)). inl d) (in_cases ((p, e), s) left ((q, f), t) c)) (λ w. inr w) (so_far.all y q f t at n);
+      all = λ y q f t at n. ⊎_elim (λ (c : Contains (((p, e), s) ∷ left) ((q, f), t)). ⊎_elim (λ (h : ◌≡◌ {A = Entry} ((p, e), s) ((q, f), t)). let w = same_set q f t at h in absurd (complete y (same_pair p e q f w.0 w.1 (λ (z : ℕ × ℕ). next_symbol rules z.0 z.1) ∙ n))) (λ (d : Contains left ((q, f), t)). inl d) (in_cases ((p, e), s) left ((q, f), t) c)) (λ w. inr w) (so_far.all y q f t at n);
       only = so_far.only;
     }
 
@@ -99,7 +99,7 @@ module _ (rules : List Rule) (items : ItemMap) (ordered : tree.IsOrdered item_cm
           ⊎_elim (λ w. let a : p ≡ q = ap (λ (z : ℕ × ℕ). z.0) w.0 in let b : e + 1 ≡ d = ap (λ (z : ℕ × ℕ). z.1) w.0 in (e, sym b, ap (λ (m : ℕ). lookaheads_at items m e) (sym a) ∙ here ∙ ap Some w.1, ap (λ (m : ℕ). next_symbol rules m e) (sym a) ∙ next)) (λ w. so_far.only x w.0 q d t w.1 w.2) (item_cases (q, d) t (eq_by_cmp item_cmp (p, e + 1) (q, d)) refl (sym (moved.items (q, d)) ∙ h))
 
       -- what was there stays
-      item_stays : (q d : ℕ) (t : TokenSet) (k : ItemMap) (b : Bool) → tree.get symbol_cmp found x ≡ Some k → lookaheads_at k q d ≡ Some t → (((p, e + 1) ≡ (q, d)) → s ≡ t) → eq_by_cmp item_cmp (p, e + 1) (q, d) ≡ b → cond b (Some s) (option_and_then (λ m. tree.get item_cmp m (q, d)) (tree.get symbol_cmp found x)) ≡ Some t
+      item_stays : (q d : ℕ) (t : TokenSet) (k : ItemMap) (b : Bool) → tree.get symbol_cmp found x ≡ Some k → lookaheads_at k q d ≡ Some t → (◌≡◌ {A = ℕ × ℕ} (p, e + 1) (q, d) → s ≡ t) → eq_by_cmp item_cmp (p, e + 1) (q, d) ≡ b → cond b (Some s) (option_and_then (λ m. tree.get item_cmp m (q, d)) (tree.get symbol_cmp found x)) ≡ Some t
       item_stays q d t k true at h same g = ap Some (same (item_exact (p, e + 1) (q, d) (equal_from (item_cmp (p, e + 1) (q, d)) g)))
       item_stays q d t k false at h same g = ap (option_and_then (λ m. tree.get item_cmp m (q, d))) at ∙ h
 
@@ -111,7 +111,7 @@ module _ (rules : List Rule) (items : ItemMap) (ordered : tree.IsOrdered item_cm
       kept y q f t k at g h =
           ⊎_elim (λ (same : x ≡ y). let k_at : tree.get symbol_cmp found x ≡ Some k = ap (tree.get symbol_cmp found) same ∙ g in (moved.kernel, ap (tree.get symbol_cmp new) (sym same) ∙ at_symbol, moved.items (q, f + 1) ∙ item_stays q (f + 1) t k (eq_by_cmp item_cmp (p, e + 1) (q, f + 1)) k_at h (λ z. let a : p ≡ q = ap (λ (v : ℕ × ℕ). v.0) z in let b : e + 1 ≡ f + 1 = ap (λ (v : ℕ × ℕ). v.1) z in let c : e ≡ f = omega arith in same_Some s t (sym here ∙ same_pair p e q f a c (λ (v : ℕ × ℕ). lookaheads_at items v.0 v.1) ∙ at)) refl)) (λ (other : cond (eq_by_cmp symbol_cmp x y) (Some moved.kernel) (tree.get symbol_cmp found y) ≡ Some k). (k, moved.put y ∙ other, h)) (set_stays y k (eq_by_cmp symbol_cmp x y) refl g)
 
-      added : (y : SymbolNumber) (q f : ℕ) (t : TokenSet) → lookaheads_at items q f ≡ Some t → next_symbol rules q f ≡ Some y → ((p, e), s) ≡ ((q, f), t) → (m : ItemMap) × (tree.get symbol_cmp new y ≡ Some m) × (lookaheads_at m q (f + 1) ≡ Some t)
+      added : (y : SymbolNumber) (q f : ℕ) (t : TokenSet) → lookaheads_at items q f ≡ Some t → next_symbol rules q f ≡ Some y → ◌≡◌ {A = Entry} ((p, e), s) ((q, f), t) → (m : ItemMap) × (tree.get symbol_cmp new y ≡ Some m) × (lookaheads_at m q (f + 1) ≡ Some t)
       added y q f t at n h =
           let w = same_set q f t at h in
           let y_is : x ≡ y = same_Some x y (sym next ∙ same_pair p e q f w.0 w.1 (λ (v : ℕ × ℕ). next_symbol rules v.0 v.1) ∙ n) in
@@ -122,6 +122,6 @@ module _ (rules : List Rule) (items : ItemMap) (ordered : tree.IsOrdered item_cm
         ordered = moved.ordered;
         each_ordered = λ y k h. ⊎_elim (λ w. subst (λ (m : ItemMap). tree.IsOrdered item_cmp m) w.1 moved.kernel_ordered) (λ (o : tree.get symbol_cmp found y ≡ Some k). so_far.each_ordered y k o) (set_at y k h);
         some = λ y k h. ⊎_elim (λ w. (p, e, is_some_from (lookaheads_at items p e) s here, next ∙ ap Some w.0)) (λ (o : tree.get symbol_cmp found y ≡ Some k). so_far.some y k o) (set_at y k h);
-        all = λ y q f t at n. ⊎_elim (λ (c : Contains (((p, e), s) ∷ left) ((q, f), t)). ⊎_elim (λ (h : ((p, e), s) ≡ ((q, f), t)). inr (added y q f t at n h)) (λ (d : Contains left ((q, f), t)). inl d) (in_cases ((p, e), s) left ((q, f), t) c)) (λ w. inr (kept y q f t w.0 at w.1 w.2)) (so_far.all y q f t at n);
+        all = λ y q f t at n. ⊎_elim (λ (c : Contains (((p, e), s) ∷ left) ((q, f), t)). ⊎_elim (λ (h : ◌≡◌ {A = Entry} ((p, e), s) ((q, f), t)). inr (added y q f t at n h)) (λ (d : Contains left ((q, f), t)). inl d) (in_cases ((p, e), s) left ((q, f), t) c)) (λ w. inr (kept y q f t w.0 at w.1 w.2)) (so_far.all y q f t at n);
         only = λ y k q d t h g. ⊎_elim (λ w. let r = only_here q d t (ap (λ (m : ItemMap). lookaheads_at m q d) w.1 ∙ g) in (r.0, r.1, r.2, r.3 ∙ ap Some w.0)) (λ (o : tree.get symbol_cmp found y ≡ Some k). so_far.only y k q d t o g) (set_at y k h);
       }

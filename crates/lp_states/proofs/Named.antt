@@ -104,7 +104,7 @@ at_length (x ∷ xs) y zs n e = rw e (at_length xs y zs (length xs) refl)
 
 take_length : {X : Type 0} (xs zs : List X) (n : ℕ) → n ≡ length xs → take n (xs ++ zs) ≡ xs
 take_length [] zs n e = rw e refl
-take_length (x ∷ xs) zs n e = rw e (ap (λ (ys : List X). x ∷ ys) (take_length xs zs (length xs) refl))
+take_length {X} (x ∷ xs) zs n e = rw e (ap (λ (ys : List X). x ∷ ys) (take_length xs zs (length xs) refl))
 
 at_origin : (before : List (List SymbolNumber)) (os : List Origin) (j : ℕ) (o : Origin) → slice_get os j ≡ Some o → slice_get (paths_from before os) (length before + j) ≡ Some (path_after (take (length before + j) (paths_from before os)) o)
 at_origin before [] j o h = cc
@@ -126,7 +126,7 @@ at_path os j o h =
 
 pub back_after : (os : List Origin) (at i : ℕ) (x : SymbolNumber) → slice_get os at ≡ Some (After i x) → i < at → slice_index_or (paths_of os) at [] ≡ x ∷ slice_index_or (paths_of os) i []
 back_after os at i x h l =
-    at_path os at (After i x) h ∙ ap (λ (u : List SymbolNumber). x ∷ u) (get_or-take (paths_of os) at i [] l)
+    at_path os at (After i x) h ∙ ap (λ (u : List SymbolNumber). x ∷ u) (get_or-take at (paths_of os) i [] l)
 
 pub back_stop : (os : List Origin) (at i : ℕ) (x : SymbolNumber) → slice_get os at ≡ Some (After i x) → at ≤ i → slice_index_or (paths_of os) at [] ≡ x ∷ []
 back_stop os at i x h l =

@@ -1,5 +1,5 @@
 -- The productions of a nonterminal are a range.
-use Rattle.std.proofs.Common.{◌≡◌, ℕ, zero, suc, ◌+◌, ◌-◌, ◌<◌, ◌≤◌, ◌↔◌, List, [], ◌∷◌, ◌++◌, map, length, get_or, Option, Some, None, slice_get, refl, sym, ap, ◌∙◌, ⊎_elim, add-one, arith}
+use Rattle.std.proofs.Common.{◌≡◌, ℕ, zero, suc, ◌+◌, ◌-◌, ◌<◌, ◌≤◌, ◌↔◌, List, [], ◌∷◌, ◌++◌, map, length, get_or, Option, Some, None, slice_get, slice_index, refl, sym, ap, ◌∙◌, ⊎_elim, add-one, arith}
 use Rattle.std.specs.Option.{option_map}
 use Rattle.std.specs.BTreeMap.{values}
 use Rattle.std.proofs.lemmas.Bool.{cases_lt}
@@ -77,15 +77,7 @@ left_in_range g k b (d ∷ ds) zero q h =
     let f = first_is (b + length d.productions) ds in
     ⊎_elim (λ (l : q < length d.productions). (omega arith, omega arith)) (λ (l : length d.productions ≤ q). let e : k + 1 ≤ k + 0 = left_at_least g (k + 1) ds (q - length d.productions) (k + 0) (sym (left_later g k d.productions (rules_from g (k + 1) ds) q l) ∙ h) in absurd (omega arith)) (cases_lt q (length d.productions))
 left_in_range g k b (d ∷ ds) (suc n) q h =
-    ⊎_elim (λ (l : q < length d.productions). let e : k ≡ k + suc n = same_Some k (k + suc n) (sym (left_here g k d.productions (rules_from g (k + 1) ds) q l) ∙ h) in absurd (omega arith)) (λ (l : length d.productions ≤ q). left_in_later g k b d ds n q l (left_later g k d.productions (rules_from g (k + 1) ds) q l) h) (cases_lt q (length d.productions))
-
-left_in_later : (g : Grammar) (k b : ℕ) (d : NonterminalData) (ds : List NonterminalData) (n q : ℕ) → length d.productions ≤ q → left_of (rules_from g k (d ∷ ds)) q ≡ left_of (rules_from g (k + 1) ds) (q - length d.productions) → left_of (rules_from g k (d ∷ ds)) q ≡ Some (k + suc n) → (get_or (firsts_from (b + length d.productions) ds) n 0 ≤ b + q) × (b + q < get_or (firsts_from (b + length d.productions) ds) (suc n) 0)
-left_in_later g k b d ds n q l same h =
-    let m = length d.productions in
-    let e : (b + m) + (q - m) ≡ b + q = omega arith in
-    let f : k + suc n ≡ (k + 1) + n = omega arith in
-    let r = left_in_range g (k + 1) (b + m) ds n (q - m) (sym same ∙ h ∙ ap Some f) in
-    (rw e at r.0, rw e at r.1)
+    ⊎_elim (λ (l : q < length d.productions). let e : k ≡ k + suc n = same_Some k (k + suc n) (sym (left_here g k d.productions (rules_from g (k + 1) ds) q l) ∙ h) in absurd (omega arith)) (λ (l : length d.productions ≤ q). let e : (b + length d.productions) + (q - length d.productions) ≡ b + q = omega arith in let f : k + suc n ≡ (k + 1) + n = omega arith in let r = left_in_range g (k + 1) (b + length d.productions) ds n (q - length d.productions) (sym (left_later g k d.productions (rules_from g (k + 1) ds) q l) ∙ h ∙ ap Some f) in (rw e at r.0, rw e at r.1)) (cases_lt q (length d.productions))
 
 -- the productions of a grammar by number
 pub rules_ranges : (g : Grammar) → AreRanges (rules_of g) (firsts_from 0 (values g.nonterminals))
@@ -98,3 +90,7 @@ pub past_range : (xs : List ℕ) (rules : List Rule) (n p : ℕ) → AreRanges r
 past_range xs rules n p h l has =
     let r = (h n p).1 (left_of_from_HasLeft rules p n has) in
     omega (arith, r.1, get_or_past xs (n + 1) 0 l)
+
+pub range_of : (rules : List Rule) (xs : List ℕ) (n a b : ℕ) → AreRanges rules xs → a ≡ slice_index xs n → b ≡ slice_index xs (n + 1) → (p : ℕ) → ((a ≤ p) × (p < b)) ↔ HasLeft rules p n
+range_of rules xs n a b h e f p =
+    rw (e, f) (λ r. HasLeft-from_left_of rules p n ((h n p).0 r), λ l. (h n p).1 (left_of_from_HasLeft rules p n l))

@@ -32,14 +32,14 @@ module _ (rules : List Rule) (start : ℕ) (paths : List (List SymbolNumber)) (t
       ⊎_elim (λ (c : Contains left (i, y)). absurd (earlier_itself (y ∷ v) (before_up_to (y ∷ v) (y ∷ w) (y ∷ v) (before (i, y) w c r.1.1) up))) (λ t. (t.0, (t.2.0, t.2.1, alike_both rules start t.2.0 (y ∷ w) (y ∷ v) t.2.2 more, up_to_trans t.2.0 (y ∷ w) (y ∷ v) t.2.3 up))) (walk.followed i y w r.1.1 (viable_alike rules start (y ∷ v) (y ∷ w) (alike_back rules start (y ∷ w) (y ∷ v) more) ok))
 
   -- each path is a first path
-  numbered_first : (k : ℕ) (u : List SymbolNumber) → slice_get paths k ≡ Some u → IsFirstPath rules start u
+  pub numbered_first : (k : ℕ) (u : List SymbolNumber) → slice_get paths k ≡ Some u → IsFirstPath rules start u
   numbered_first k u at = record {
     viable = walk.viable k u at;
     first = λ v earlier alike. let r = covered v (viable_alike rules start u v (alike_back rules start v u alike) (walk.viable k u at)) (λ e t c g. earlier_trans v u (e.1 ∷ t) earlier (walk.behind e t k u c g at)) in let same = walk.apart r.0 k r.1.0 u r.1.1 at (alike_both rules start r.1.0 v u r.1.2 alike) in let is : r.1.0 ≡ u = same_Some r.1.0 u (sym r.1.1 ∙ ap (slice_get paths) same ∙ at) in earlier_itself u (subst (λ s. IsEarlier s u) is (up_to_before r.1.0 v u r.1.3 earlier));
   }
 
   -- a first path before all edges that are left was numbered
-  first_numbered : (u : List SymbolNumber) → IsFirstPath rules start u → ((e : ℕ × SymbolNumber) (t : List SymbolNumber) → Contains left e → slice_get paths e.0 ≡ Some t → IsEarlier u (e.1 ∷ t)) → Contains paths u
+  pub first_numbered : (u : List SymbolNumber) → IsFirstPath rules start u → ((e : ℕ × SymbolNumber) (t : List SymbolNumber) → Contains left e → slice_get paths e.0 ≡ Some t → IsEarlier u (e.1 ∷ t)) → Contains paths u
   first_numbered u h before =
       let r = covered u h.viable before in
       ⊎_elim (λ (a : IsEarlier r.1.0 u). absurd (h.first r.1.0 a r.1.2)) (λ (e : r.1.0 ≡ u). subst (λ s. Contains paths s) e (contained_at paths r.0 r.1.0 r.1.1)) r.1.3

@@ -5,7 +5,7 @@ use Rattle.lp_states.proofs.ActionSteps.{shifted_begun, shifted_found}
 use Rattle.lp_states.proofs.state.shifted.Goals as goal
 
 pub loop-item-init : goal.loop-item-init
-loop-item-init c = λ t. shifted_begun c.args.rules.now.all.items c.new-shifted.result c.args.items.now.entries t (c.new-shifted.ensures t)
+loop-item-init c = let all = c.into_iter-item-iterator.ensures.into_iter_gives in λ t. rw all.0 (shifted_begun c.args.rules.now.all.items c.new-shifted.result c.args.items.now.entries t (c.new-shifted.ensures t))
 
 pub returns : goal.returns
 returns c =

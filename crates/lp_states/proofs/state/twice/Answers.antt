@@ -5,7 +5,7 @@ use Rattle.lp_states.proofs.ActionSteps.{twice_begun, twice_found, twice_more, t
 use Rattle.lp_states.proofs.state.twice.Goals as goal
 
 pub loop-item-init : goal.loop-item-init
-loop-item-init c = λ t. twice_begun c.args.rules.now.all.items c.new-twice.result c.in_ok-once.once c.args.items.now.entries t (c.new-twice.ensures t) (c.in_ok-once.ensures t)
+loop-item-init c = let all = c.into_iter-item-iterator.ensures.into_iter_gives in λ t. rw all.0 (twice_begun c.args.rules.now.all.items c.new-twice.result c.in_ok-once.once c.args.items.now.entries t (c.new-twice.ensures t) (c.in_ok-once.ensures t))
 
 pub returns : goal.returns
 returns c =

@@ -8,7 +8,7 @@ loop-init c = record { work = c.requires.work; grows = λ n s e. (s, e, λ t h. 
 
 pub loop-preserved : goal.loop-preserved
 loop-preserved c =
-    let now = c.in_ok-spread_one.ensures in
+    let now = c.in_ok-spread_one-in-Some.ensures in
     record {
       work = now.work;
       grows = grows_both _ _ _ c.loop.invariant.grows now.grows;

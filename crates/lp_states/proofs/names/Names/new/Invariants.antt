@@ -7,5 +7,5 @@ use Rattle.lp_states.proofs.names.Names.new.Given as goal
 abbrev pub invariant-loop-production : goal.invariant-loop-production
 invariant-loop-production l = record {
   rightly : NamesRightly l.grammar l.names;
-  named : AreNamed l.grammar l.names (take l.production-index (map deref l.productions.items));
+  named : AreNamed l.grammar l.names (take l.production-index (map deref l.production-items));
 }
