@@ -1,5 +1,6 @@
 -- The actions of entries, entry by entry.
 use Rattle.std.proofs.Common.{◌≡◌, ◌≢◌, ℕ, ◌⊎◌, ◌↔◌, ◌^◌, Bool, true, false, IsTrue, List, [], ◌∷◌, Option, Some, None, refl, sym, ap, ◌∙◌, ⊎_elim, inl, inr, subst, bit_or}
+use Rattle.std.specs.Option.{is_some}
 use Rattle.std.proofs.lemmas.Nat.Bits.{bit_at-pow_same}
 use Rattle.lp_repr.specs.Closure.{next_symbol}
 use Rattle.lp_repr.specs.declared.numbering.Rule.{Rule}
@@ -71,3 +72,7 @@ shifted_found rules s es t h =
 pub shifted_begun : (rules : List Rule) (s : TokenSet) (es : List Entry) (t : Token) → (HasToken s t → ⊥) → (HasToken s t ⊎ Shifted rules es t) ↔ Shifted rules es t
 shifted_begun rules s es t none =
     (λ h. ⊎_elim (λ (a : HasToken s t). absurd (none a)) (λ (x : Shifted rules es t). x) h, λ x. inr x)
+
+pub none_from : {X : Type 0} (o : Option X) → is_some o ≡ false → o ≡ None
+none_from None h = refl
+none_from (Some x) h = cc

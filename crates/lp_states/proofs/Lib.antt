@@ -9,11 +9,13 @@ pub mod EdgeLemmas
 pub mod Edges
 pub mod Entries
 pub mod Faults
+pub mod FirstToken
 pub mod Follows
 pub mod ItemOrder
 pub mod ItemsAfter
 pub mod KernelOrder
 pub mod LeadingAlike
+pub mod MovedKernels
 pub mod MovedSteps
 pub mod Named
 pub mod NamingSteps
@@ -21,6 +23,7 @@ pub mod NotedStates
 pub mod PathOrder
 pub mod Puts
 pub mod RangeLemmas
+pub mod ReductionSteps
 pub mod Results
 pub mod SymbolOrder
 pub mod WalkLemmas

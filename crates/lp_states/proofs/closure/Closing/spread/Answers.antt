@@ -11,6 +11,6 @@ loop-preserved c =
     let now = c.in_ok-spread_one-in-Some.ensures in
     record {
       work = now.work;
-      grows = grows_both _ _ _ c.loop.invariant.grows now.grows;
+      grows = grows_both c.args.asked.now.sets c.loop.asked.sets c.spread_one.new.asked.sets c.loop.invariant.grows now.grows;
       sound = λ kernel h. now.sound kernel (c.loop.invariant.sound kernel h)
     }
