@@ -325,15 +325,14 @@ impl Builder {
         ensures before { IfOk result (λ o. IfSome o (λ n. n < at)) }
     {
         match self.origins.get(at) {
-            Some(Origin::After(from, symbol)) => {
-                backwards.push(*symbol)?;
-                if *from < at {
-                    Ok(Some(*from))
-                } else {
-                    Ok(None)
+            None => Ok(None),
+            Some(origin) => match *origin {
+                Origin::Start => Ok(None),
+                Origin::After(from, symbol) => {
+                    backwards.push(symbol)?;
+                    if from < at { Ok(Some(from)) } else { Ok(None) }
                 }
-            }
-            _ => Ok(None),
+            },
         }
     }
 }
