@@ -1,13 +1,14 @@
 -- The beginning, production by production.
-use Rattle.std.proofs.Common.{◌≡◌, ◌≢◌, ℕ, ◌+◌, ◌<◌, ◌≤◌, ◌↔◌, ◌⊎◌, List, Option, Some, None, IsSome, refl, sym, ap, ◌∙◌, ⊎_elim, inl, inr, subst, arith}
+use Rattle.std.proofs.Common.{◌≡◌, ◌≢◌, ℕ, ◌+◌, ◌<◌, ◌≤◌, ◌↔◌, ◌⊎◌, Bool, true, List, Option, Some, None, IsSome, refl, sym, ap, ◌∙◌, ⊎_elim, inl, inr, subst, arith}
 use Rattle.std.proofs.lemmas.Bool.{cases_lt, cases_eq}
 use Rattle.std.proofs.lemmas.Option.{same_Some, none-some}
 use Rattle.lp_repr.specs.Closure.{HasLeft}
 use Rattle.lp_repr.specs.declared.numbering.Rule.{Rule}
 use Rattle.lp_repr.specs.declared.lr1.Token.{Token}
-use Rattle.lp_repr.specs.declared.lr1.Token.TheVariants.{Eof}
+use Rattle.lp_repr.specs.declared.lr1.Token.TheVariants.{Terminal, Eof}
 use Rattle.lp_sets.specs.declared.tokens.TokenSet.{TokenSet}
 use Rattle.lp_sets.specs.TokenSets.{HasToken}
+use Rattle.lp_sets.specs.Members.{Has}
 use Rattle.lp_states.specs.ItemSets.{IsBegun}
 use Rattle.lp_states.specs.ItemMaps.{ItemMap, item_cmp, lookaheads_at, Stands, StandsOn, IsPut, IsStartKernel}
 use Rattle.lp_states.proofs.Closures.{is_some_from}
@@ -56,3 +57,8 @@ module _ (rules : List Rule) (start : ℕ) where
 
     pub begun_more : BegunBelow rules start (k + 1) new
     begun_more = record { cores = cores_more; lookaheads = lookaheads_more }
+
+-- the end of input alone
+pub ends_only : (s : TokenSet) → ((t : Token) → HasToken s t → ⊥) → (v : TokenSet) → v.terminals ≡ s.terminals → v.end ≡ true → (t : Token) → HasToken v t ↔ (t ≡ Eof)
+ends_only s none v e f (Terminal n) = (λ h. absurd (none (Terminal n) (subst (λ m. Has m n) e h)), λ h. cc)
+ends_only s none v e f Eof = (λ h. refl, λ h. f)

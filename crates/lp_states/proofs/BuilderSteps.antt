@@ -299,3 +299,14 @@ module _ (rules : List Rule) (start : ℕ) (b : Builder) (built : IsBuilt rules 
     same_count = omega (arith, length_paths [] b.origins.items, built.count);
     each = λ i u s g h. record { shows = built.shown i u s g h; shifts = λ n j. (leads i u s g h (by_number.Terminal n) j, led i u s g h (by_number.Terminal n) j); gotos = λ n j. (leads i u s g h (by_number.Nonterminal n) j, led i u s g h (by_number.Nonterminal n) j) };
   }
+
+-- ---- what calls keep
+pub same_origins : (a b : Builder) → a.origins ≡ b.origins → a.origins.items ≡ b.origins.items
+same_origins a b e = rw e refl
+
+pub same_edges : (a b : Builder) → a.edges ≡ b.edges → a.edges.items ≡ b.edges.items
+same_edges a b e = rw e refl
+
+pub put_kept : (old mid after new : BTreeMap ItemMap ℕ) (k : ItemMap) (m n : ℕ) → mid ≡ old → new ≡ after → m ≡ n → IsPut kernel_cmp mid after k m → IsPut kernel_cmp old new k n
+put_kept old mid after new k m n e f g put =
+    subst (λ (o : BTreeMap ItemMap ℕ). IsPut kernel_cmp o new k n) e (subst (λ (o : BTreeMap ItemMap ℕ). IsPut kernel_cmp mid o k n) (sym f) (subst (λ i. IsPut kernel_cmp mid after k i) g put))

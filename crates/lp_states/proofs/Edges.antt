@@ -33,3 +33,16 @@ module _ (rules : List Rule) (start : ℕ) (old new : Builder) (e : Edge) (edges
 pub edge_within : (rules : List Rule) (start from : ℕ) (over : SymbolNumber) (b : Builder) (u : List SymbolNumber) → IsBuilt rules start ((from, over) ∷ []) b → slice_get (paths_of b.origins.items) from ≡ Some u → from < length b.states.items
 edge_within rules start from over b u built at =
     omega (arith, slice_get_within (paths_of b.origins.items) from u at, length_paths [] b.origins.items, built.count)
+
+-- no edge is left
+pub nothing_popped : (rules : List Rule) (start : ℕ) (old new : Builder) → old.edges.items ≡ new.edges.items → new.origins ≡ old.origins → new.states ≡ old.states → new.numbers ≡ old.numbers → IsBuilt rules start [] old → IsBuilt rules start [] new
+nothing_popped rules start old new edges o s n built = record {
+  walk = rw (o, s) (subst (λ (es : List Edge). IsWalk rules start (paths_of old.origins.items) (targets_of old.states.items) (edges_of es)) edges built.walk);
+  count = rw (o, s) built.count;
+  few = rw s built.few;
+  shown = rw (o, s) built.shown;
+  calm = rw o built.calm;
+  kernels = rw (o, n) built.kernels;
+  numbered = rw (o, n) built.numbered;
+  edge_kernels = rw o (λ f c. built.edge_kernels f (subst (λ (es : List Edge). Contains es f) (sym edges) c));
+}

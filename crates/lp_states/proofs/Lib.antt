@@ -25,6 +25,7 @@ pub mod Puts
 pub mod RangeLemmas
 pub mod ReductionSteps
 pub mod Results
+pub mod StartKernels
 pub mod SymbolOrder
 pub mod WalkLemmas
 pub mod WalkSteps
