@@ -5,7 +5,7 @@ use Rattle.std.proofs.lemmas.List.Elements.{Contains-append_left, Contains-appen
 use Rattle.std.specs.Option.{option_map, option_and_then}
 use Rattle.std.specs.List.{filter_map, flat_map, AllZip}
 use Rattle.std.specs.BTreeMap.{values}
-use Rattle.std.proofs.lemmas.Option.{same_Some, none-some, slice_get_within, get_or_from_slice_get}
+use Rattle.std.proofs.lemmas.Option.{same_Some, none-some, slice_get_within, get_or_from_slice_get, slice_get-get_or}
 use Rattle.lp_repr.specs.Closure.{next_symbol}
 use Rattle.lp_repr.specs.Numbering.{number_or_count, rule_of, rules_from, rules_of, productions_of}
 use Rattle.lp_repr.specs.declared.repr.Grammar.{Grammar}
@@ -134,3 +134,11 @@ back_stop os at i x h l =
 
 pub back_start : (os : List Origin) (at : ℕ) → slice_get os at ≡ Some Start → slice_index_or (paths_of os) at [] ≡ []
 back_start os at h = at_path os at Start h
+
+-- ---- one step back
+pub origin_at : (os xs : List Origin) (at : ℕ) (o p : Origin) → xs ≡ os → at < length xs → o ≡ get_or xs at o → o ≡ p → slice_get os at ≡ Some p
+origin_at os xs at o p same l is be =
+    ap (λ (ys : List Origin). slice_get ys at) (sym same) ∙ slice_get-get_or xs at o l ∙ ap Some (sym is ∙ be)
+
+pub back_past : (os : List Origin) (at : ℕ) → length (paths_of os) ≤ at → slice_index_or (paths_of os) at [] ≡ []
+back_past os at l = get_or_past (paths_of os) at [] l
