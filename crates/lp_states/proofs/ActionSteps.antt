@@ -1,10 +1,9 @@
 -- The actions of entries, entry by entry.
-use Rattle.std.proofs.Common.{◌≡◌, ◌≢◌, ℕ, ◌⊎◌, ◌↔◌, ◌^◌, Bool, true, false, IsTrue, List, [], ◌∷◌, Option, Some, None, refl, sym, ap, ◌∙◌, ⊎_elim, inl, inr, subst, bit_or}
+use Rattle.std.proofs.Common.{◌≡◌, ℕ, ◌⊎◌, ◌↔◌, ◌^◌, false, IsTrue, List, [], ◌∷◌, Option, Some, None, refl, sym, ap, ◌∙◌, ⊎_elim, inl, inr, subst, bit_or}
 use Rattle.std.specs.Option.{is_some}
 use Rattle.std.proofs.lemmas.Nat.Bits.{bit_at-pow_same}
 use Rattle.lp_repr.specs.Closure.{next_symbol}
 use Rattle.lp_repr.specs.declared.numbering.Rule.{Rule}
-use Rattle.lp_repr.specs.declared.numbering.SymbolNumber.{SymbolNumber}
 use Rattle.lp_repr.specs.declared.numbering.SymbolNumber.TheVariants as symbol
 use Rattle.lp_repr.specs.declared.lr1.Token.{Token}
 use Rattle.lp_repr.specs.declared.lr1.Token.TheVariants.{Terminal, Eof}

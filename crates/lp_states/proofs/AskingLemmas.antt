@@ -3,17 +3,16 @@ use Rattle.std.proofs.Common.{◌≡◌, ◌≢◌, ℕ, ◌⊎◌, ◌↔◌, �
 use Rattle.std.specs.BTreeMap as tree
 use Rattle.std.specs.BTreeMap.{BTreeMap}
 use Rattle.std.specs.Ordering.{nat_cmp, eq_by_cmp}
-use Rattle.std.specs.Cmp.{unsigned_ties}
-use Rattle.std.proofs.lemmas.Bool.{cases_eq, eqb-true}
+use Rattle.std.proofs.lemmas.Bool.{cases_eq}
 use Rattle.std.proofs.lemmas.Bool.Decides.{nat_tests}
 use Rattle.std.proofs.lemmas.Option.{same_Some, none-some}
 use Rattle.std.proofs.lemmas.List.Elements.{Contains-push, Contains-push_cases, Contains-append_left}
-use Rattle.lp_repr.specs.Closure.{next_symbol, HasLeft, InClosure, opened}
+use Rattle.lp_repr.specs.Closure.{next_symbol, HasLeft, opened}
 use Rattle.lp_repr.specs.declared.numbering.Rule.{Rule}
 use Rattle.lp_repr.specs.declared.numbering.SymbolNumber.TheVariants as symbol
 use Rattle.lp_repr.specs.declared.lr1.Token.{Token}
 use Rattle.lp_sets.specs.declared.tokens.TokenSet.{TokenSet}
-use Rattle.lp_sets.specs.TokenSets.{HasToken, union_of}
+use Rattle.lp_sets.specs.TokenSets.{HasToken}
 use Rattle.lp_sets.proofs.TokenLists.{HasToken-union}
 use Rattle.lp_states.specs.ItemSets.{InLookaheads, begun, passed}
 use Rattle.lp_states.specs.ItemMaps.{ItemMap, Stands, StandsOn, IsPut, added_to}

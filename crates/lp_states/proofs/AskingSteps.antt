@@ -1,18 +1,18 @@
 -- What the items of a kernel and the productions of a nonterminal ask for, one by one.
-use Rattle.std.proofs.Common.{◌≡◌, ◌≢◌, ℕ, zero, suc, ◌+◌, ◌<◌, ◌≤◌, ◌⊎◌, ◌++◌, List, [], ◌∷◌, Option, Some, None, refl, sym, ap, ◌∙◌, ⊎_elim, inl, inr, subst, arith, Contains}
+use Rattle.std.proofs.Common.{◌≡◌, ℕ, ◌+◌, ◌<◌, ◌≤◌, ◌⊎◌, List, [], ◌∷◌, Some, None, sym, ap, ◌∙◌, ⊎_elim, inl, inr, subst, arith, Contains}
 use Rattle.std.specs.BTreeMap as tree
 use Rattle.std.specs.Ordering.{nat_cmp}
 use Rattle.std.proofs.lemmas.Bool.{cases_lt}
 use Rattle.std.proofs.lemmas.Map.Views.{btree_map_get_iff}
-use Rattle.std.proofs.lemmas.Option.{same_Some, none-some}
-use Rattle.lp_repr.specs.Closure.{next_symbol, HasLeft, InClosure, given as core_given}
+use Rattle.std.proofs.lemmas.Option.{none-some}
+use Rattle.lp_repr.specs.Closure.{next_symbol, HasLeft, given as core_given}
 use Rattle.lp_repr.specs.declared.numbering.Rule.{Rule}
 use Rattle.lp_repr.specs.declared.numbering.SymbolNumber.TheVariants as symbol
 use Rattle.lp_repr.specs.declared.lr1.Token.{Token}
 use Rattle.lp_sets.specs.declared.tokens.TokenSet.{TokenSet}
 use Rattle.lp_sets.specs.TokenSets.{HasToken}
 use Rattle.lp_states.specs.ItemSets.{given}
-use Rattle.lp_states.specs.ItemMaps.{ItemMap, item_cmp, lookaheads_at, Stands, StandsOn}
+use Rattle.lp_states.specs.ItemMaps.{ItemMap, item_cmp, lookaheads_at}
 use Rattle.lp_states.specs.Actions.{Entry}
 use Rattle.lp_states.specs.Asking.{AskedMap, MayFollow, AsksFor, Covers, IsSoundItem, IsSoundAsked, IsSpread, Widens, IsSpreadOrWork}
 use Rattle.lp_states.proofs.AskingLemmas.{covers_more}

@@ -1,32 +1,29 @@
 -- The steps of the builder.
-use Rattle.std.proofs.Common.{◌≡◌, ◌≢◌, ℕ, zero, suc, ◌+◌, ◌<◌, ◌≤◌, ◌↔◌, ◌⊎◌, Bool, true, false, cond, List, [], ◌∷◌, ◌++◌, map, length, get_or, Option, Some, None, slice_get, slice_index_or, refl, sym, ap, ◌∙◌, ⊎_elim, inl, inr, subst, append_assoc, length-append, arith, Contains}
+use Rattle.std.proofs.Common.{◌≡◌, ℕ, zero, suc, ◌+◌, ◌⊎◌, Bool, true, false, cond, List, [], ◌∷◌, ◌++◌, map, length, Some, None, slice_get, refl, sym, ap, ◌∙◌, ⊎_elim, inl, inr, subst, length-append, arith, Contains}
 use Rattle.std.specs.BTreeMap as tree
 use Rattle.std.specs.BTreeMap.{BTreeMap}
-use Rattle.std.specs.Ordering.{nat_cmp, eq_by_cmp}
+use Rattle.std.specs.Ordering.{eq_by_cmp}
 use Rattle.std.specs.Option.{option_and_then}
 use Rattle.std.proofs.lemmas.Option.{same_Some, none-some, slice_get_within, get_or_from_slice_get}
-use Rattle.std.proofs.lemmas.List.Elements.{Contains-append_cases, Contains-append_left, Contains-push_cases}
+use Rattle.std.proofs.lemmas.List.Elements.{Contains-append_cases, Contains-push_cases}
 use Rattle.lp_repr.specs.declared.numbering.Rule.{Rule}
 use Rattle.lp_repr.specs.declared.numbering.SymbolNumber.{SymbolNumber}
 use Rattle.lp_repr.specs.declared.numbering.SymbolNumber.TheVariants as by_number
 use Rattle.lp_repr.specs.declared.lr1.Lr1State.{Lr1State}
-use Rattle.lp_repr.specs.declared.lr1.Token.{Token}
 use Rattle.lp_states.specs.declared.builder.Builder.{Builder}
 use Rattle.lp_states.specs.declared.builder.Edge.{Edge}
 use Rattle.lp_states.specs.declared.builder.Origin.{Origin}
 use Rattle.lp_states.specs.declared.builder.Origin.TheVariants.{Start, After}
 use Rattle.lp_states.specs.declared.builder.Stop.{Stop}
 use Rattle.lp_states.specs.declared.builder.Stop.TheVariants.{Conflict, TooMany, Memory}
-use Rattle.lp_states.specs.ItemSets.{HasConflict}
-use Rattle.lp_states.specs.ItemMaps.{ItemMap, item_cmp, IsPut, IsKernelAfter, IsStartKernel, IsClosureOf, AreItemsAfter}
-use Rattle.lp_states.specs.Actions.{ActsTwice}
+use Rattle.lp_states.specs.ItemMaps.{ItemMap, IsPut, IsKernelAfter, IsStartKernel, AreItemsAfter}
 use Rattle.lp_states.specs.Paths.{IsViable, LeadAlike, AreFirstPaths}
-use Rattle.lp_states.specs.Walks.{EdgeBefore, IsNumbered, IsReached, IsWalk, IsNoted}
-use Rattle.lp_states.specs.States.{ShowsItemsAfter, IsStateAfter, AreStates, IsFirstConflict, AreTooMany, LeadsTo, IsCalm, most_states}
-use Rattle.lp_states.specs.Building.{path_after, paths_from, paths_of, target_at, targets_of, edge_of, edges_of, edge_from, kernel_cmp, IsNewState, IsKernelConflict, NumbersNew, StopsAt, IsNotedIn, IsBuilt, IsStopped}
+use Rattle.lp_states.specs.Walks.{IsNoted}
+use Rattle.lp_states.specs.States.{ShowsItemsAfter, AreStates, LeadsTo, IsCalm}
+use Rattle.lp_states.specs.Building.{path_after, paths_from, paths_of, target_at, targets_of, edge_of, edges_of, edge_from, kernel_cmp, NumbersNew, StopsAt, IsNotedIn, IsBuilt, IsStopped}
 use Rattle.lp_states.proofs.LeadingAlike.{alike_back, alike_both, begun_apart}
-use Rattle.lp_states.proofs.WalkLemmas.{numbered_are_first, all_covered, place_of, contained_at}
-use Rattle.lp_states.proofs.WalkSteps.{push_old, push_new, push_cases, head_in, in_cases, walk_found, walk_new, walk_start, next_are_first, start_is_first, viable_next}
+use Rattle.lp_states.proofs.WalkLemmas.{numbered_are_first, all_covered}
+use Rattle.lp_states.proofs.WalkSteps.{push_old, push_new, push_cases, in_cases, walk_found, walk_new, walk_start, next_are_first, start_is_first, viable_next}
 use Rattle.lp_states.proofs.ItemsAfter.{start_items, next_items, kernel_alike, same_kernel}
 use Rattle.lp_states.proofs.Entries.{conflict_from_twice, twice_from_conflict, shows_items}
 use Rattle.lp_states.proofs.EdgeLemmas.{edges_entry, entry_edge, edges_ordered, moved_viable, viable_found, kernel_of_edge}

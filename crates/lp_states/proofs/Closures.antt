@@ -1,23 +1,20 @@
 -- Closures of items (Knuth 1965).
-use Rattle.std.proofs.Common.{◌≡◌, ℕ, zero, suc, ◌+◌, ◌⊎◌, ◌↔◌, List, Option, Some, None, slice_get, IsSome, refl, sym, ap, ◌∙◌, ⊎_elim, inl, inr, subst}
+use Rattle.std.proofs.Common.{◌≡◌, ℕ, zero, suc, ◌⊎◌, List, Option, Some, None, IsSome, refl, sym, ap, ◌∙◌, ⊎_elim, inl, inr, subst}
 use Rattle.std.specs.BTreeMap as tree
-use Rattle.std.specs.BTreeMap.{BTreeMap}
 use Rattle.std.specs.Ordering.{nat_cmp}
-use Rattle.std.specs.Option.{option_map, option_and_then}
+use Rattle.std.specs.Option.{option_and_then}
 use Rattle.std.proofs.lemmas.Option.{same_Some}
-use Rattle.lp_repr.specs.Closure.{next_symbol, HasLeft, InClosure, given as core_given, opened}
+use Rattle.lp_repr.specs.Closure.{HasLeft, InClosure, given as core_given, opened}
 use Rattle.lp_repr.specs.declared.numbering.Rule.{Rule}
-use Rattle.lp_repr.specs.declared.numbering.SymbolNumber.TheVariants as symbol
 use Rattle.lp_repr.specs.declared.lr1.Token.{Token}
 use Rattle.lp_repr.specs.declared.lr1.Token.TheVariants.{Terminal}
 use Rattle.lp_sets.specs.declared.tokens.TokenSet.{TokenSet}
 use Rattle.lp_sets.specs.TokenSets.{HasToken, union_of}
-use Rattle.lp_sets.specs.FirstSets.{DerivesEmpty, BeginsWith}
 use Rattle.lp_sets.proofs.TokenLists.{HasToken-union}
 use Rattle.lp_states.specs.Ranges.{left_of}
-use Rattle.lp_states.specs.ItemSets.{InLookaheads, given, begun, passed, word_after}
-use Rattle.lp_states.specs.ItemMaps.{ItemMap, item_cmp, lookaheads_at, Stands, StandsOn, IsClosureOf, asked_at, joined, closed_at, added_to}
-use Rattle.lp_states.specs.Asking.{AskedMap, MayFollow, AsksFor, Covers, IsSoundItem, IsSoundAsked, IsSpread}
+use Rattle.lp_states.specs.ItemSets.{InLookaheads, given, begun, passed}
+use Rattle.lp_states.specs.ItemMaps.{ItemMap, item_cmp, lookaheads_at, Stands, StandsOn, IsClosureOf, asked_at, joined, closed_at}
+use Rattle.lp_states.specs.Asking.{AskedMap, Covers, IsSoundItem, IsSoundAsked, IsSpread}
 use Rattle.lp_states.proofs.RangeLemmas.{HasLeft-from_left_of, left_of_from_HasLeft}
 
 -- ---- more given, more in the closure

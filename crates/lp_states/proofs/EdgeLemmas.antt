@@ -1,10 +1,9 @@
 -- The edges of a new state.
-use Rattle.std.proofs.Common.{◌≡◌, ◌≢◌, ℕ, zero, suc, ◌+◌, ◌<◌, ◌≤◌, ◌↔◌, ◌⊎◌, List, [], ◌∷◌, map, length, Option, Some, None, IsSome, slice_get, refl, sym, ap, ◌∙◌, ⊎_elim, inl, inr, subst, arith, Contains, AllPairs}
+use Rattle.std.proofs.Common.{◌≡◌, ℕ, ◌+◌, List, [], ◌∷◌, map, Some, refl, sym, ap, ◌∙◌, ⊎_elim, inr, subst, arith, Contains, AllPairs}
 use Rattle.std.specs.BTreeMap as tree
 use Rattle.std.specs.BTreeMap.{BTreeMap}
 use Rattle.std.specs.List.Sorted.{IsStrictlySortedBy}
-use Rattle.std.specs.declared.cmp.Ordering.{Ordering}
-use Rattle.std.specs.declared.cmp.Ordering.TheVariants.{Less, Equal, Greater}
+use Rattle.std.specs.declared.cmp.Ordering.TheVariants.{Less}
 use Rattle.std.proofs.lemmas.Map.Keys.{sorted_head, sorted_tail}
 use Rattle.std.proofs.lemmas.Map.Views.{btree_map_get_iff}
 use Rattle.std.proofs.lemmas.List.Elements.{All-from_recursion, All-contains}
@@ -17,11 +16,11 @@ use Rattle.lp_repr.specs.declared.lr1.Token.{Token}
 use Rattle.lp_sets.specs.declared.tokens.TokenSet.{TokenSet}
 use Rattle.lp_states.specs.declared.builder.Edge.{Edge}
 use Rattle.lp_states.specs.ItemSets.{IsCore, IsLookahead, Moved, MovedOn}
-use Rattle.lp_states.specs.ItemMaps.{ItemMap, item_cmp, lookaheads_at, Stands, StandsOn, AreItemsAfter, IsKernelAfter}
+use Rattle.lp_states.specs.ItemMaps.{ItemMap, lookaheads_at, Stands, StandsOn, AreItemsAfter, IsKernelAfter}
 use Rattle.lp_states.specs.Actions.{symbol_cmp, AreMoved}
-use Rattle.lp_states.specs.Paths.{ComesBefore, IsViable}
+use Rattle.lp_states.specs.Paths.{IsViable}
 use Rattle.lp_states.specs.Walks.{EdgeBefore}
-use Rattle.lp_states.specs.Building.{edge_of, edges_of, edge_from}
+use Rattle.lp_states.specs.Building.{edges_of, edge_from}
 use Rattle.lp_states.proofs.Closures.{some_of, is_some_from}
 use Rattle.lp_states.proofs.SymbolOrder.{symbol_total, symbol_exact, symbol_less}
 use Rattle.lp_states.proofs.LeadingAlike.{viable_moved, moved_item}

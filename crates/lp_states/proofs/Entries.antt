@@ -1,25 +1,23 @@
 -- The entries of a map of items.
-use Rattle.std.proofs.Common.{◌≡◌, ◌≢◌, ℕ, zero, suc, ◌+◌, ◌<◌, ◌≤◌, ◌↔◌, ◌⊎◌, List, [], ◌∷◌, map, length, get_or, Option, Some, None, IsSome, slice_get, refl, sym, ap, ◌∙◌, ⊎_elim, inl, inr, subst, arith, Contains, AllPairs}
+use Rattle.std.proofs.Common.{◌≡◌, ◌≢◌, ℕ, zero, suc, ◌<◌, ◌↔◌, List, [], ◌∷◌, map, Some, None, slice_get, refl, sym, ap, ◌∙◌, ⊎_elim, inl, inr, subst, arith, Contains, AllPairs}
 use Rattle.std.specs.BTreeMap as tree
 use Rattle.std.specs.List.Sorted.{IsStrictlySortedBy}
-use Rattle.std.specs.declared.cmp.Ordering.{Ordering}
 use Rattle.std.specs.declared.cmp.Ordering.TheVariants.{Less}
 use Rattle.std.proofs.lemmas.Map.Keys.{sorted_head, sorted_tail}
 use Rattle.std.proofs.lemmas.Map.Views.{btree_map_get_iff}
 use Rattle.std.proofs.lemmas.List.Elements.{All-from_recursion, All-contains}
 use Rattle.std.proofs.lemmas.List.Kept.{AllPairs-cons}
 use Rattle.std.proofs.lemmas.Option.{same_Some}
-use Rattle.lp_repr.specs.Closure.{next_symbol, HasItem}
+use Rattle.lp_repr.specs.Closure.{next_symbol}
 use Rattle.lp_repr.specs.declared.numbering.Rule.{Rule}
 use Rattle.lp_repr.specs.declared.numbering.SymbolNumber.{SymbolNumber}
 use Rattle.lp_repr.specs.declared.lr1.Item.{Item}
 use Rattle.lp_repr.specs.declared.lr1.Lr1State.{Lr1State}
 use Rattle.lp_repr.specs.declared.lr1.Token.{Token}
-use Rattle.lp_repr.specs.declared.lr1.Token.TheVariants.{Terminal}
 use Rattle.lp_sets.specs.declared.tokens.TokenSet.{TokenSet}
 use Rattle.lp_sets.specs.TokenSets.{HasToken, ListsTokens}
-use Rattle.lp_states.specs.ItemSets.{IsCore, IsLookahead, Shifts, Reduces, HasConflict}
-use Rattle.lp_states.specs.ItemMaps.{ItemMap, item_cmp, lookaheads_at, Stands, StandsOn, AreItemsAfter}
+use Rattle.lp_states.specs.ItemSets.{IsCore, IsLookahead, Reduces, HasConflict}
+use Rattle.lp_states.specs.ItemMaps.{ItemMap, item_cmp, lookaheads_at, AreItemsAfter}
 use Rattle.lp_states.specs.Actions.{Entry, ShiftsAt, ReducesAt, Shifted, Reduced, ReducedTwice, ActsTwice, ShowsItems}
 use Rattle.lp_states.specs.Reductions.{reductions_of}
 use Rattle.lp_states.specs.States.{IsItemBefore, ShowsItemsAfter}

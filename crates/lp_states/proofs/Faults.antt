@@ -1,8 +1,7 @@
 -- Where there are no states.
-use Rattle.std.proofs.Common.{◌≡◌, ℕ, zero, suc, ◌+◌, ◌-◌, ◌<◌, ◌≤◌, List, [], ◌∷◌, ◌++◌, length, Option, Some, None, IsSome, slice_get, slice_index_or, refl, sym, ap, ◌∙◌, subst, arith, Contains}
+use Rattle.std.proofs.Common.{◌≡◌, ℕ, ◌-◌, List, [], ◌∷◌, ◌++◌, length, Some, IsSome, slice_index_or, refl, ap, ◌∙◌, subst, arith, Contains}
 use Rattle.std.proofs.lemmas.List.{length_push}
 use Rattle.std.proofs.lemmas.List.Elements.{Contains-push}
-use Rattle.std.specs.List.{AllZip}
 use Rattle.lp_repr.specs.Closure.{InClosure, given, opened}
 use Rattle.lp_repr.specs.Numbering.{rules_of}
 use Rattle.lp_repr.specs.ValidTables.{start_number}

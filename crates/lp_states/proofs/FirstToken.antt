@@ -1,5 +1,5 @@
 -- The first token of a set.
-use Rattle.std.proofs.Common.{◌≡◌, ℕ, ◌<◌, ◌↔◌, List, [], ◌∷◌, MatchOption, slice_get, subst, ⊎_elim, arith, Contains}
+use Rattle.std.proofs.Common.{◌≡◌, ◌↔◌, List, [], ◌∷◌, MatchOption, slice_get, subst, ⊎_elim, arith, Contains}
 use Rattle.lp_repr.specs.declared.lr1.Token.{Token}
 use Rattle.lp_repr.specs.declared.lr1.Token.TheVariants.{Terminal, Eof}
 use Rattle.lp_sets.specs.declared.tokens.TokenSet.{TokenSet}

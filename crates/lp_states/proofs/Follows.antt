@@ -1,5 +1,5 @@
 -- What may follow the symbol after the dot of an item.
-use Rattle.std.proofs.Common.{◌≡◌, ℕ, ◌⊎◌, ◌↔◌, Bool, true, false, IsTrue, List, refl, sym, ◌∙◌, ⊎_elim, inl, inr, subst, bit_or}
+use Rattle.std.proofs.Common.{◌≡◌, ℕ, ◌↔◌, true, false, IsTrue, List, refl, sym, ⊎_elim, inl, inr, subst, bit_or}
 use Rattle.lp_repr.specs.declared.numbering.Rule.{Rule}
 use Rattle.lp_repr.specs.declared.lr1.Token.{Token}
 use Rattle.lp_repr.specs.declared.lr1.Token.TheVariants.{Terminal, Eof}

@@ -1,17 +1,14 @@
 -- The items after a path, as maps.
-use Rattle.std.proofs.Common.{◌≡◌, ◌≢◌, ℕ, zero, suc, ◌+◌, ◌<◌, ◌≤◌, ◌↔◌, ◌⊎◌, List, [], ◌∷◌, length, Option, Some, None, IsSome, slice_get, refl, sym, ap, ◌∙◌, ⊎_elim, inl, inr, subst, add-one, arith}
+use Rattle.std.proofs.Common.{◌≡◌, ℕ, suc, ◌<◌, ◌≤◌, List, [], ◌∷◌, length, Option, Some, None, slice_get, refl, sym, ap, ◌∙◌, ⊎_elim, subst, add-one, arith}
 use Rattle.std.specs.Option.{option_and_then}
-use Rattle.std.specs.BTreeMap as tree
 use Rattle.std.proofs.lemmas.Map.Lookups.{btree_map_from_get}
 use Rattle.std.proofs.lemmas.Option.{same_Some, none-some, slice_get_within, slice_get_cases}
-use Rattle.lp_repr.specs.Closure.{next_symbol, HasLeft, InClosure, given as core_given, opened}
+use Rattle.lp_repr.specs.Closure.{next_symbol, InClosure, given as core_given, opened}
 use Rattle.lp_repr.specs.declared.numbering.Rule.{Rule}
 use Rattle.lp_repr.specs.declared.numbering.SymbolNumber.{SymbolNumber}
 use Rattle.lp_repr.specs.declared.lr1.Token.{Token}
-use Rattle.lp_repr.specs.declared.lr1.Token.TheVariants.{Eof}
-use Rattle.lp_sets.specs.declared.tokens.TokenSet.{TokenSet}
-use Rattle.lp_states.specs.ItemSets.{IsCore, IsLookahead, IsBegun, Moved, MovedOn, InLookaheads, given}
-use Rattle.lp_states.specs.ItemMaps.{ItemMap, item_cmp, lookaheads_at, Stands, StandsOn, IsClosureOf, AreItemsAfter, IsKernelAfter, IsStartKernel}
+use Rattle.lp_states.specs.ItemSets.{IsCore, IsLookahead, IsBegun, Moved, MovedOn, given}
+use Rattle.lp_states.specs.ItemMaps.{ItemMap, lookaheads_at, Stands, StandsOn, IsClosureOf, AreItemsAfter, IsKernelAfter, IsStartKernel}
 use Rattle.lp_states.specs.Paths.{LeadAlike}
 use Rattle.lp_states.proofs.Closures.{InClosure-more, InLookaheads-more, given_behind, given_behind_on}
 use Rattle.lp_states.proofs.ItemOrder.{item_total, item_exact, same_lookaheads}

@@ -1,5 +1,5 @@
 -- Kernels are found by their entries.
-use Rattle.std.proofs.Common.{◌≡◌, ℕ, ◌↔◌, Bool, true, false, List, [], ◌∷◌, map, Option, Some, None, IsSome, refl, sym, ap, ◌∙◌, subst, arith}
+use Rattle.std.proofs.Common.{◌≡◌, ℕ, Bool, true, false, List, [], ◌∷◌, map, Option, IsSome, refl, sym, ap, ◌∙◌, subst}
 use Rattle.std.specs.BTreeMap as tree
 use Rattle.std.specs.BTreeMap.{BTreeMap}
 use Rattle.std.specs.List.Sorted.{IsStrictlySortedBy}
@@ -13,10 +13,8 @@ use Rattle.std.proofs.lemmas.Cmp.{nat_cmp_total, tied_itself}
 use Rattle.std.proofs.lemmas.Map.Lookups.{CmpEqualImpliesEq, exact_unsigned}
 use Rattle.lp_repr.specs.declared.numbering.Rule.{Rule}
 use Rattle.lp_repr.specs.declared.numbering.SymbolNumber.{SymbolNumber}
-use Rattle.lp_repr.specs.declared.lr1.Token.{Token}
 use Rattle.lp_sets.specs.declared.tokens.TokenSet.{TokenSet}
-use Rattle.lp_states.specs.ItemSets.{IsCore, IsLookahead, Moved, MovedOn}
-use Rattle.lp_states.specs.ItemMaps.{ItemMap, item_cmp, lookaheads_at, Stands, StandsOn, IsKernelAfter}
+use Rattle.lp_states.specs.ItemMaps.{ItemMap, item_cmp, lookaheads_at, IsKernelAfter}
 use Rattle.lp_states.specs.Actions.{Entry}
 use Rattle.lp_states.specs.Building.{kernel_cmp, token_set_cmp}
 use Rattle.lp_states.proofs.ItemOrder.{item_total, item_exact}

@@ -1,10 +1,10 @@
 -- Paths that lead to the same items.
-use Rattle.std.proofs.Common.{◌≡◌, ℕ, zero, suc, ◌+◌, ◌↔◌, List, [], ◌∷◌, Some, refl, sym, ap, ◌∙◌, add-one, subst, arith}
-use Rattle.lp_repr.specs.Closure.{next_symbol, HasLeft, InClosure, given as core_given, opened}
+use Rattle.std.proofs.Common.{◌≡◌, ℕ, suc, ◌+◌, List, [], ◌∷◌, Some, refl, sym, add-one, arith}
+use Rattle.lp_repr.specs.Closure.{next_symbol, given as core_given, opened}
 use Rattle.lp_repr.specs.declared.numbering.SymbolNumber.{SymbolNumber}
 use Rattle.lp_repr.specs.declared.numbering.Rule.{Rule}
 use Rattle.lp_repr.specs.declared.lr1.Token.{Token}
-use Rattle.lp_states.specs.ItemSets.{IsCore, IsLookahead, IsBegun, Moved, MovedOn}
+use Rattle.lp_states.specs.ItemSets.{IsCore, IsLookahead, Moved, MovedOn}
 use Rattle.lp_states.specs.Paths.{IsViable, LeadAlike}
 use Rattle.lp_states.proofs.Closures.{InClosure-more, InLookaheads-more, given_behind}
 

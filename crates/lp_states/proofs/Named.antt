@@ -2,10 +2,10 @@
 use Rattle.std.proofs.Common.{◌≡◌, ℕ, zero, suc, ◌+◌, ◌-◌, ◌<◌, ◌≤◌, ◌⊎◌, List, [], ◌∷◌, ◌++◌, map, reverse, length, get_or, take, Option, Some, None, IsSome, slice_get, slice_index_or, refl, sym, ap, ◌∙◌, ⊎_elim, inl, inr, subst, arith, append_assoc, append-nil, length-append, Contains}
 use Rattle.std.proofs.lemmas.List.{length-reverse, get_or-reverse, get_or_past, length-take, get_or-take}
 use Rattle.std.proofs.lemmas.List.Elements.{Contains-append_left, Contains-append_right}
-use Rattle.std.specs.Option.{option_map, option_and_then}
+use Rattle.std.specs.Option.{option_and_then}
 use Rattle.std.specs.List.{filter_map, flat_map, AllZip}
 use Rattle.std.specs.BTreeMap.{values}
-use Rattle.std.proofs.lemmas.Option.{same_Some, none-some, slice_get_within, get_or_from_slice_get, slice_get-get_or}
+use Rattle.std.proofs.lemmas.Option.{same_Some, get_or_from_slice_get, slice_get-get_or}
 use Rattle.lp_repr.specs.Closure.{next_symbol}
 use Rattle.lp_repr.specs.Numbering.{number_or_count, rule_of, rules_from, rules_of, productions_of}
 use Rattle.lp_repr.specs.declared.repr.Grammar.{Grammar}

@@ -1,5 +1,5 @@
 -- Names of symbols and paths by name, one by one.
-use Rattle.std.proofs.Common.{◌≡◌, ◌≢◌, ℕ, zero, suc, ◌+◌, ◌-◌, ◌<◌, ◌≤◌, ◌⊎◌, Bool, true, false, cond, List, [], ◌∷◌, ◌++◌, map, length, Option, Some, None, IsSome, slice_get, slice_index_or, get_or, take, append_assoc, append-nil, refl, sym, ap, ◌∙◌, ⊎_elim, inl, inr, subst, arith, Contains}
+use Rattle.std.proofs.Common.{◌≡◌, ℕ, ◌+◌, ◌<◌, Bool, true, false, cond, List, [], ◌∷◌, ◌++◌, map, length, Option, Some, None, IsSome, slice_get, slice_index_or, get_or, take, refl, sym, ap, ◌∙◌, ⊎_elim, subst, arith, Contains}
 use Rattle.std.specs.Borrow.{Bor}
 use Rattle.std.specs.BTreeMap as tree
 use Rattle.std.specs.Map.Iter.{deref}

@@ -1,11 +1,10 @@
 -- A value put at a key that was taken out before.
-use Rattle.std.proofs.Common.{◌≡◌, ℕ, Bool, true, false, cond, Option, Some, None, refl, sym, ap, ◌∙◌}
+use Rattle.std.proofs.Common.{◌≡◌, Bool, true, false, cond, Option, Some, refl, ap, ◌∙◌}
 use Rattle.std.specs.BTreeMap as tree
 use Rattle.std.specs.BTreeMap.{BTreeMap}
 use Rattle.std.specs.declared.cmp.Ordering.{Ordering}
 use Rattle.std.specs.Ordering.{eq_by_cmp}
-use Rattle.lp_sets.specs.declared.tokens.TokenSet.{TokenSet}
-use Rattle.lp_states.specs.ItemMaps.{IsPut, added_to}
+use Rattle.lp_states.specs.ItemMaps.{IsPut}
 
 over_again : {X : Type 0} (b : Bool) (x y z : Option X) → cond b x (cond b y z) ≡ cond b x z
 over_again true x y z = refl

@@ -1,13 +1,13 @@
 -- Whether a start has productions, by its kernel.
-use Rattle.std.proofs.Common.{◌≡◌, ℕ, Bool, true, cond, List, [], ◌∷◌, length, Option, Some, None, IsSome, refl, sym, ap, ◌∙◌, subst, arith}
+use Rattle.std.proofs.Common.{◌≡◌, ℕ, Bool, cond, List, [], ◌∷◌, length, Some, IsSome, refl, ap, ◌∙◌, arith}
 use Rattle.std.specs.BTreeMap as tree
 use Rattle.std.specs.Map.{lookup}
 use Rattle.std.specs.Ordering.{is_eq}
 use Rattle.std.proofs.lemmas.Cmp.{tied_itself}
-use Rattle.lp_repr.specs.Closure.{InClosure, given}
+use Rattle.lp_repr.specs.Closure.{given}
 use Rattle.lp_repr.specs.declared.numbering.Rule.{Rule}
 use Rattle.lp_states.specs.ItemSets.{IsBegun}
-use Rattle.lp_states.specs.ItemMaps.{ItemMap, item_cmp, lookaheads_at, Stands, IsStartKernel}
+use Rattle.lp_states.specs.ItemMaps.{ItemMap, item_cmp, lookaheads_at, IsStartKernel}
 use Rattle.lp_states.specs.Actions.{Entry}
 use Rattle.lp_states.specs.Paths.{IsViable}
 use Rattle.lp_states.proofs.Closures.{is_some_from}

@@ -1,14 +1,12 @@
 -- A breadth-first walk finds the first paths in order.
-use Rattle.std.proofs.Common.{◌≡◌, ◌≢◌, ℕ, zero, suc, ◌+◌, ◌<◌, ◌≤◌, ◌⊎◌, ◌↔◌, List, [], ◌∷◌, ◌++◌, map, length, get_or, Option, Some, None, slice_get, refl, sym, ap, ◌∙◌, ⊎_elim, inl, inr, subst, arith, AllPairs, Contains}
+use Rattle.std.proofs.Common.{◌≡◌, ℕ, List, [], ◌∷◌, get_or, Option, Some, slice_get, refl, sym, ap, ◌∙◌, ⊎_elim, inr, subst, arith, AllPairs, Contains}
 use Rattle.std.proofs.lemmas.Option.{same_Some, slice_get_within, slice_get-get_or}
-use Rattle.std.proofs.lemmas.Bool.{cases_lt, cases_eq}
-use Rattle.std.proofs.lemmas.List.Elements.{Contains-get_or, Contains-append_left, Contains-append_right, Contains-append_cases}
 use Rattle.lp_repr.specs.declared.numbering.SymbolNumber.{SymbolNumber}
 use Rattle.lp_repr.specs.declared.numbering.Rule.{Rule}
-use Rattle.lp_states.specs.Paths.{ComesBefore, IsEarlier, IsViable, LeadAlike, IsFirstPath, AreFirstPaths}
-use Rattle.lp_states.specs.Walks.{EdgeBefore, IsNumbered, IsReached, IsEdge, IsWalk}
-use Rattle.lp_states.proofs.PathOrder.{IsUpTo, earlier_trans, earlier_itself, earlier_longer, up_to_more, up_to_trans, up_to_before, before_up_to}
-use Rattle.lp_states.proofs.LeadingAlike.{alike_itself, alike_back, alike_both, alike_more, viable_alike, viable_before, begun_apart}
+use Rattle.lp_states.specs.Paths.{IsEarlier, IsViable, IsFirstPath, AreFirstPaths}
+use Rattle.lp_states.specs.Walks.{IsReached, IsWalk}
+use Rattle.lp_states.proofs.PathOrder.{earlier_trans, earlier_itself, earlier_longer, up_to_more, up_to_trans, up_to_before, before_up_to}
+use Rattle.lp_states.proofs.LeadingAlike.{alike_itself, alike_back, alike_both, alike_more, viable_alike, viable_before}
 
 -- ---- places in lists
 pub place_of : {X : Type 0} (xs : List X) (x : X) → Contains xs x → (i : ℕ) × (slice_get xs i ≡ Some x)

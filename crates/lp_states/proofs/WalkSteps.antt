@@ -1,19 +1,17 @@
 -- The steps of a breadth-first walk.
-use Rattle.std.proofs.Common.{◌≡◌, ◌≢◌, ℕ, zero, suc, ◌+◌, ◌<◌, ◌≤◌, ◌⊎◌, ◌↔◌, List, [], ◌∷◌, ◌++◌, map, length, get_or, Option, Some, None, slice_get, refl, sym, ap, ◌∙◌, ⊎_elim, inl, inr, subst, arith, AllPairs, Contains}
+use Rattle.std.proofs.Common.{◌≡◌, ℕ, zero, suc, ◌<◌, ◌⊎◌, List, [], ◌∷◌, ◌++◌, length, get_or, Option, Some, None, slice_get, refl, sym, ap, ◌∙◌, ⊎_elim, inl, inr, subst, arith, AllPairs, Contains}
 use Rattle.std.proofs.lemmas.Option.{same_Some, none-some, slice_get_within, slice_get-get_or}
-use Rattle.std.proofs.lemmas.Bool.{cases_lt, cases_eq}
-use Rattle.std.proofs.lemmas.List.{get_or_default}
-use Rattle.std.proofs.lemmas.List.Elements.{Contains-append_left, Contains-append_right, Contains-append_cases, Contains-push, Contains-push_cases, All-weaker, All-contains_itself}
+use Rattle.std.proofs.lemmas.List.Elements.{Contains-append_left, Contains-append_right, Contains-append_cases, Contains-push_cases, All-weaker, All-contains_itself}
 use Rattle.std.proofs.lemmas.List.Kept.{AllPairs-cons}
 use Rattle.std.proofs.lemmas.List.Quantifiers.{all_pairs_push}
 use Rattle.std.specs.List.{All}
 use Rattle.lp_repr.specs.declared.numbering.SymbolNumber.{SymbolNumber}
 use Rattle.lp_repr.specs.declared.numbering.Rule.{Rule}
-use Rattle.lp_states.specs.Paths.{ComesBefore, IsEarlier, IsViable, LeadAlike, IsFirstPath, AreFirstPaths}
+use Rattle.lp_states.specs.Paths.{IsEarlier, IsViable, LeadAlike, IsFirstPath, AreFirstPaths}
 use Rattle.lp_states.specs.Walks.{EdgeBefore, IsNumbered, IsReached, IsEdge, IsWalk, IsNoted}
 use Rattle.lp_states.proofs.PathOrder.{earlier_trans, earlier_longer, none_earlier}
-use Rattle.lp_states.proofs.LeadingAlike.{alike_itself, alike_back, alike_both, alike_more, viable_alike, viable_before}
-use Rattle.lp_states.proofs.WalkLemmas.{covered, numbered_first, first_numbered, place_of, contained_at}
+use Rattle.lp_states.proofs.LeadingAlike.{alike_itself, alike_back, alike_both, viable_alike}
+use Rattle.lp_states.proofs.WalkLemmas.{covered, numbered_first, first_numbered, place_of}
 
 -- ---- lists
 pub push_old : {X : Type 0} (xs : List X) (y : X) (k : ℕ) (w : X) → slice_get xs k ≡ Some w → slice_get (xs ++ y ∷ []) k ≡ Some w

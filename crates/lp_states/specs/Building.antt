@@ -1,5 +1,5 @@
 -- What the builder holds.
-use Rattle.std.specs.Prelude.{◌≡◌, ◌⊎◌, ℕ, ◌<◌, ◌≤◌, List, [], ◌∷◌, ◌++◌, map, length, Option, Some, None, slice_get, slice_index_or, option_and_then, Contains}
+use Rattle.std.specs.Prelude.{◌≡◌, ℕ, ◌<◌, ◌≤◌, List, [], ◌∷◌, ◌++◌, map, length, Option, Some, None, slice_get, slice_index_or, option_and_then, Contains}
 use Rattle.std.specs.Ordering.{nat_cmp, ordering_then}
 use Rattle.std.specs.Cmp.Lexicographic.{slice_cmp}
 use Rattle.std.specs.declared.cmp.Ordering.{Ordering}
@@ -13,7 +13,6 @@ use Rattle.lp_repr.specs.declared.lr1.Token.{Token}
 use Rattle.lp_sets.specs.declared.tokens.TokenSet.{TokenSet}
 use Rattle.lp_sets.specs.contracts.tokens.TokenSetOrd.TheImpl as token_set_ord
 use Rattle.lp_sets.specs.TokenSets.{IsBefore}
-use Rattle.lp_sets.specs.FirstTables.{AreFirsts}
 use Rattle.lp_states.specs.declared.builder.Builder.{Builder}
 use Rattle.lp_states.specs.declared.builder.Edge.{Edge}
 use Rattle.lp_states.specs.declared.builder.Origin.{Origin}

@@ -1,4 +1,3 @@
-use Rattle.std.proofs.Common.{◌≡◌}
 use Rattle.lp_states.proofs.Results.{err_is}
 use Rattle.lp_states.proofs.builder.build_states.Goals as goal
 

@@ -1,4 +1,4 @@
-use Rattle.std.proofs.Common.{◌≡◌, ◌+◌, None, sym}
+use Rattle.std.proofs.Common.{◌+◌, None, sym}
 use Rattle.lp_states.specs.Actions.{symbol_cmp}
 use Rattle.lp_states.proofs.MovedKernels.{IsKernelOf, kernel_of_none, kernel_of_some, some_at, items_of, same_tokens}
 use Rattle.lp_states.proofs.Puts.{put_again}
@@ -16,5 +16,5 @@ returns c =
       kernel = c.insert.new.self;
       kernel_ordered = c.insert.ensures.ordered;
       put = put_again symbol_cmp found c.remove.new.self c.insert-2.new.self x c.insert.new.self None c.remove.ensures.updates.0 c.in_ok-insert-2.ensures.updates.0;
-      items = items_of found x kernel c.insert.new.self c.args.item.0 c.in_ok-dot.dot c.args.item.1 c.in_ok-clone.field-0 c.args.lookaheads.now of c.in_ok-insert.ensures.updates.0 (some_at c.checked_add.result _ (c.args.item.1 + 1) c.in_ok-dot.dot c.in_ok-dot.ensures.ok_part c.checked_add.ensures) (same_tokens c.in_ok-clone.field-0 c.args.lookaheads.now c.in_ok-clone.ensures.cases.0 c.in_ok-clone.ensures.cases.1)
+      items = items_of found x kernel c.insert.new.self c.args.item.0 c.in_ok-dot.dot c.args.item.1 c.in_ok-clone.field-0 c.args.lookaheads.now of c.in_ok-insert.ensures.updates.0 (some_at c.checked_add.result _ (c.args.item.1 + 1) c.in_ok-dot.dot c.in_ok-dot.ensures.ok_part c.checked_add.ensures) (same_tokens c.in_ok-clone.field-0 c.args.lookaheads.now c.in_ok-clone.ensures.cases.0 c.in_ok-clone.ensures.cases.1);
     }

@@ -1,4 +1,4 @@
-use Rattle.std.proofs.Common.{◌≡◌, ◌++◌, ◌+◌, ◌<◌, ◌≤◌, [], ◌∷◌, List, length, take, slice_index_or, subst, sym, arith}
+use Rattle.std.proofs.Common.{◌<◌, ◌≤◌, [], List, length, take, slice_index_or, subst, arith}
 use Rattle.std.proofs.lemmas.List.{take_more, take_all}
 use Rattle.lp_repr.specs.declared.numbering.SymbolNumber.{SymbolNumber}
 use Rattle.lp_states.specs.Naming.{IsSpelled, AreSpelled}

@@ -1,5 +1,4 @@
 use Rattle.std.proofs.Common.{◌≡◌, [], length, sym, subst, rules}
-use Rattle.std.proofs.lemmas.Result.{on_ok_weaker}
 use Rattle.lp_states.specs.declared.closure.Closing.{Closing}
 use Rattle.lp_states.specs.Building.{IsBuilt, paths_of}
 use Rattle.lp_states.proofs.BuilderSteps.{start_stops, step_start, states_built}

@@ -1,4 +1,4 @@
-use Rattle.std.proofs.Common.{◌≡◌, true, refl, arith}
+use Rattle.std.proofs.Common.{true, refl, arith}
 use Rattle.lp_sets.specs.declared.tokens.TokenSet.{TokenSet}
 use Rattle.lp_states.proofs.BegunSteps.{begun_none, begun_more, begun_all, ends_only}
 use Rattle.lp_states.proofs.builder.Builder.start_kernel.Goals as goal

@@ -1,4 +1,4 @@
-use Rattle.std.proofs.Common.{◌≡◌, ◌≤◌, ◌++◌, [], ◌∷◌, List, length, slice_index_or, sym, ap, ◌∙◌, append_assoc, append-nil, arith}
+use Rattle.std.proofs.Common.{◌≤◌, ◌++◌, [], ◌∷◌, List, length, slice_index_or, sym, ap, ◌∙◌, append_assoc, append-nil, arith}
 use Rattle.lp_repr.specs.declared.numbering.SymbolNumber.{SymbolNumber}
 use Rattle.lp_states.specs.declared.builder.Origin.{Origin}
 use Rattle.lp_states.specs.declared.builder.Origin.TheVariants.{Start, After}

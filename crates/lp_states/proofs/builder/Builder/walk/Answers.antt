@@ -1,4 +1,4 @@
-use Rattle.std.proofs.Common.{◌≡◌, [], refl, sym, subst, ◌∙◌}
+use Rattle.std.proofs.Common.{[], refl, sym, subst, ◌∙◌}
 use Rattle.lp_states.specs.declared.builder.Builder.{Builder}
 use Rattle.lp_states.specs.declared.closure.Closing.{Closing}
 use Rattle.lp_states.specs.Building.{IsBuilt, IsStopped}
@@ -38,5 +38,5 @@ loop-preserved c =
     let k = popped_kernel rules n old mid e c.in-Some.ensures.items refl refl refl c.loop.invariant.built in
     record {
       closing = c.in_ok-follow-in-Some.ensures.closing ∙ c.loop.invariant.closing;
-      built = subst (λ (x : Closing). IsBuilt x.rules.all.items n [] c.follow.new.self) (sym c.in_ok-follow-in-Some.ensures.closing) (c.in_ok-follow-in-Some.ensures.built n k.0 built k.1 k.2)
+      built = subst (λ (x : Closing). IsBuilt x.rules.all.items n [] c.follow.new.self) (sym c.in_ok-follow-in-Some.ensures.closing) (c.in_ok-follow-in-Some.ensures.built n k.0 built k.1 k.2);
     }

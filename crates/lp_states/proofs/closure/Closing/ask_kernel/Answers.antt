@@ -1,4 +1,3 @@
-use Rattle.std.proofs.Common.{◌≡◌, ◌∷◌, ap}
 use Rattle.std.specs.Map.Iter.{deref_pair}
 use Rattle.std.proofs.lemmas.Map.Iter.{rest_more, rest_all, btree_map_turn}
 use Rattle.lp_states.proofs.AskingSteps.{kernel_none, kernel_more, kernel_covered}
@@ -26,5 +25,5 @@ returns c =
       covers = kernel_covered c.args.self.now.rules.all.items c.args.kernel.now c.loop-item.asked.sets c.loop-item.asked.work.items so_far;
       work = so_far.work;
       sound = so_far.sound;
-      ordered = all.5
+      ordered = all.5;
     }

@@ -7,7 +7,7 @@ pub loop-production-init : goal.loop-production-init
 loop-production-init c = record {
   widens = widens_none c.args.asked.now.sets c.args.asked.now.work.items;
   covers = λ q l h. let r = (c.productions_of-range.ensures q).1 h in absurd (omega (arith, l, r.0));
-  sound = λ kernel items before. before
+  sound = λ kernel items before. before;
 }
 
 pub loop-production-preserved : goal.loop-production-preserved
@@ -19,12 +19,12 @@ loop-production-preserved c =
     record {
       widens = widens_both c.loop-production.invariant.widens now.widens;
       covers = covered_more rules c.loop-production.asked.sets c.ask_item.new.asked.sets c.args.nonterminal k c.args.lookaheads.now now.widens.grows c.loop-production.invariant.covers now.covers;
-      sound = λ kernel items before. now.sound kernel (items k left) (c.loop-production.invariant.sound kernel items before)
+      sound = λ kernel items before. now.sound kernel (items k left) (c.loop-production.invariant.sound kernel items before);
     }
 
 pub returns : goal.returns
 returns c = record {
   widens = c.loop-production.invariant.widens;
   covers = λ q l. let r = (c.productions_of-range.ensures q).1 l in c.loop-production.invariant.covers q (omega (arith, r.1, c.loop-production-test.false)) l;
-  sound = c.loop-production.invariant.sound
+  sound = c.loop-production.invariant.sound;
 }

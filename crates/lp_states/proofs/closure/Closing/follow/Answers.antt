@@ -1,4 +1,4 @@
-use Rattle.std.proofs.Common.{◌≡◌, ◌∙◌, sym, refl}
+use Rattle.std.proofs.Common.{◌∙◌, sym, refl}
 use Rattle.lp_states.proofs.Follows.{only_terminals, follow_passed, follow_stopped}
 use Rattle.lp_states.proofs.closure.Closing.follow.Goals as goal
 use Rattle.lp_states.proofs.closure.Closing.follow.Goals.{then-branch+in_ok-union, else-branch}

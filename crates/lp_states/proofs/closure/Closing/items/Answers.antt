@@ -3,7 +3,7 @@ use Rattle.std.specs.Option.{option_map}
 use Rattle.std.proofs.lemmas.Option.{slice_get-get_or}
 use Rattle.lp_repr.specs.declared.numbering.Rule.{Rule}
 use Rattle.lp_states.specs.Ranges.{left_of}
-use Rattle.lp_states.proofs.ClosureSteps.{closed_none, closed_all, closed_skip, closed_put}
+use Rattle.lp_states.proofs.ClosureSteps.{closed_all, closed_skip, closed_put}
 use Rattle.lp_states.proofs.closure.Closing.items.Goals as goal
 use Rattle.lp_states.proofs.closure.Closing.items.Goals.{in-None, in-Some+in_ok-put-in-Some}
 
@@ -22,5 +22,5 @@ loop-production-preserved c =
 pub returns : goal.returns
 returns c = record {
   exact = closed_all c.args.self.now.rules.all.items c.args.kernel.now c.args.asked.now.sets c.loop-production.production c.loop-production.items (omega arith) c.loop-production.invariant.closed;
-  ordered = c.loop-production.invariant.ordered
+  ordered = c.loop-production.invariant.ordered;
 }

@@ -1,6 +1,4 @@
-use Rattle.std.proofs.Common.{◌≡◌, [], sym, ap, ◌∙◌}
 use Rattle.lp_states.proofs.AskingLemmas.{grows_both}
-use Rattle.lp_states.proofs.AskingSteps.{spread_all}
 use Rattle.lp_states.proofs.closure.Closing.spread.Goals as goal
 
 pub loop-init : goal.loop-init
@@ -12,5 +10,5 @@ loop-preserved c =
     record {
       work = now.work;
       grows = grows_both c.args.asked.now.sets c.loop.asked.sets c.spread_one.new.asked.sets c.loop.invariant.grows now.grows;
-      sound = λ kernel h. now.sound kernel (c.loop.invariant.sound kernel h)
+      sound = λ kernel h. now.sound kernel (c.loop.invariant.sound kernel h);
     }

@@ -13,7 +13,7 @@ returns-in-None c =
     record {
       work = spread_absent c.args.self.now.rules.all.items asked.sets asked.work.items c.args.nonterminal (sym c.in-None.ensures.value) c.requires.work;
       grows = λ n s e. (s, e, λ t h. h);
-      sound = λ kernel h. h
+      sound = λ kernel h. h;
     }
 
 pub returns-in_ok-lookaheads-in-Some-clause-work :

@@ -1,8 +1,6 @@
-use Rattle.std.proofs.Common.{◌≡◌, ◌∙◌, ◌++◌, ◌+◌, [], ◌∷◌, map, take, subst, sym, ap, List, length, arith}
-use Rattle.std.specs.Borrow.{Bor}
+use Rattle.std.proofs.Common.{◌∙◌, map, take, subst, sym, ap, List, arith}
 use Rattle.std.specs.Map.Iter.{deref}
 use Rattle.std.proofs.lemmas.List.{take_all, length-map}
-use Rattle.lp_repr.specs.declared.repr.Grammar.{Grammar}
 use Rattle.lp_repr.specs.declared.repr.Production.{Production}
 use Rattle.lp_states.specs.Naming.{NamesMore}
 use Rattle.lp_states.proofs.Named.{names_all}
@@ -21,7 +19,7 @@ loop-production-preserved c =
     let one = take_at (map deref items) i p (mapped_here deref items i c.production-item.result c.loop-production-test.true c.production-item.is) in
     record {
       rightly = more.rightly c.loop-production.invariant.rightly;
-      named = subst (λ (ps : List Production). AreNamed g new ps) (sym one) (named_more g old new (take i (map deref items)) p c.loop-production.invariant.named more)
+      named = subst (λ (ps : List Production). AreNamed g new ps) (sym one) (named_more g old new (take i (map deref items)) p c.loop-production.invariant.named more);
     }
 
 pub returns-clause-all : goal.returns-clause-all

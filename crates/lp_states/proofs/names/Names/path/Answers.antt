@@ -1,4 +1,4 @@
-use Rattle.std.proofs.Common.{◌≡◌, ◌∙◌, Some, None, sym, ap, append-nil, ◌++◌, ◌∷◌, [], List, Option, rules}
+use Rattle.std.proofs.Common.{◌≡◌, ◌∙◌, Some, None, sym, ap, append-nil, rules}
 use Rattle.std.specs.Borrow.{Bor}
 use Rattle.std.specs.List.{filter_map}
 use Rattle.std.specs.Option.{option_map}

@@ -1,4 +1,3 @@
-use Rattle.std.proofs.Common.{◌≡◌}
 use Rattle.lp_states.proofs.RangeLemmas.{rules_ranges}
 use Rattle.lp_states.proofs.rules.Rules.new.Goals as goal
 
