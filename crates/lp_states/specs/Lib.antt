@@ -1,0 +1,12 @@
+pub mod Actions
+pub mod Asking
+pub mod Building
+pub mod Causes
+pub mod ItemMaps
+pub mod ItemSets
+pub mod Naming
+pub mod Paths
+pub mod Ranges
+pub mod Reductions
+pub mod States
+pub mod Walks

@@ -2,10 +2,10 @@
 //! Aho, Lam, Sethi, Ullman.
 #![tactic(auto)]
 
-mod bits;
+mod asked;
 mod builder;
 mod closure;
-mod first;
+mod names;
 mod rules;
 mod state;
 

@@ -1,209 +1,139 @@
 //! What the items of a state give: its conflict, what follows its symbols, its printed form.
 
-use crate::bits::Bits;
-use crate::closure::{Closing, Closure, Kernel, KernelItem};
+ghost use Rattle.std.specs.Prelude.{◌≡◌, ◌↔◌, [], IfOk, OnOk, MatchOption};
+ghost use Rattle.lp_repr.specs.declared.lr1.Token.{Token};
+ghost use Rattle.lp_sets.specs.TokenSets.{HasToken, IsBefore};
+ghost use Rattle.lp_states.specs.Actions.{Shifted, ActsTwice, AreMoved, IsMovedIn, ShowsItems};
+ghost use Rattle.lp_states.specs.Reductions.{reductions_of};
+
+use crate::closure::ItemSet;
 use crate::rules::Rules;
 use lp_repr::lr1::{Item, Lr1State, Token};
 use lp_repr::numbering::SymbolNumber;
 use lp_repr::text::Items;
+use lp_sets::tokens::TokenSet;
 use std::alloc::{AllocError, Global};
 use std::collections::BTreeMap;
 
-/// An item of a state.
-#[derive(Clone, Copy)]
-pub struct StateItem<'a> {
-    pub production: usize,
-    pub dot: usize,
-    pub lookahead: &'a Bits,
-}
+/// The sets of items that are moved over each symbol, by terminal and then by nonterminal.
+pub type Moved = BTreeMap<SymbolNumber, ItemSet>;
 
-/// The items of a state, by production and then by dot.
-pub fn state_items<'a>(
-    alloc: Global,
-    rules: &Rules,
-    kernel: &'a Kernel,
-    closure: &'a Closure,
-) -> Result<Vec<StateItem<'a>>, AllocError> {
-    let mut items = Vec::new(alloc);
-    for (nonterminal, lookahead) in &closure.sets {
-        add_productions(&mut items, rules, *nonterminal, lookahead)?;
-    }
-    for item in kernel.as_slice() {
-        items.push(StateItem {
-            production: item.production,
-            dot: item.dot,
-            lookahead: &item.lookahead,
-        })?;
-    }
-    items.sort_by_key(|item| (item.production, item.dot))?;
-    Ok(items)
-}
-
-fn add_productions<'a>(
-    items: &mut Vec<StateItem<'a>>,
-    rules: &Rules,
-    nonterminal: usize,
-    lookahead: &'a Bits,
-) -> Result<(), AllocError> {
-    if let Some(range) = rules.productions_of(nonterminal) {
-        for production in range.from..range.to {
-            items.push(StateItem {
-                production,
-                dot: 0,
-                lookahead,
-            })?;
-        }
-    }
-    Ok(())
-}
-
-/// The kernels of what follows a state, by terminal and by nonterminal.
-#[derive(Drop)]
-pub struct Advanced {
-    pub terminals: BTreeMap<usize, Kernel>,
-    pub nonterminals: BTreeMap<usize, Kernel>,
-}
-
-pub fn advance(
-    alloc: Global,
-    rules: &Rules,
-    items: &[StateItem<'_>],
-) -> Result<Advanced, AllocError> {
-    let mut found = Advanced {
-        terminals: BTreeMap::new(alloc),
-        nonterminals: BTreeMap::new(alloc),
-    };
-    for item in items {
-        let advanced = KernelItem {
-            production: item.production,
-            dot: item.dot.saturating_add(1),
-            lookahead: item.lookahead.clone()?,
-        };
-        match rules.next(item.production, item.dot) {
-            None => {}
-            Some(SymbolNumber::Terminal(number)) => {
-                add_advanced(alloc, &mut found.terminals, number, advanced)?;
-            }
-            Some(SymbolNumber::Nonterminal(number)) => {
-                add_advanced(alloc, &mut found.nonterminals, number, advanced)?;
-            }
+/// Moves the dots of the items over the symbols behind them.
+pub fn advance(alloc: Global, rules: &Rules, items: &ItemSet) -> Result<Moved, AllocError>
+    ensures { IfOk result (AreMoved rules.now.all.items items.now) }
+{
+    let mut found = BTreeMap::new(alloc);
+    for (item, lookaheads) in items {
+        if let Some(symbol) = rules.next(item.0, item.1) {
+            add_moved(alloc, &mut found, symbol, *item, lookaheads)?;
         }
     }
     Ok(found)
 }
 
-fn add_advanced(
+/// Adds an item, moved over its symbol.
+fn add_moved(
     alloc: Global,
-    kernels: &mut BTreeMap<usize, Kernel>,
-    symbol: usize,
-    item: KernelItem,
-) -> Result<(), AllocError> {
-    match kernels.get_mut(&symbol) {
-        Some(kernel) => kernel.0.push(item)?,
-        None => {
-            let kernel = Items(vec![in alloc; item]?);
-            kernels.insert(symbol, kernel)?;
-        }
-    }
-    Ok(())
-}
-
-/// The first token on which a state has two actions.
-pub fn conflict(
-    alloc: Global,
-    closing: &Closing,
-    items: &[StateItem<'_>],
-) -> Result<Option<Token>, AllocError> {
-    let rules = &closing.rules;
-    let mut once = Bits::new(alloc, closing.tokens())?;
-    let mut twice = Bits::new(alloc, closing.tokens())?;
-    for item in items {
-        if let Some(SymbolNumber::Terminal(number)) = rules.next(item.production, item.dot) {
-            once.insert(number);
-        }
-    }
-    for item in items {
-        if rules.next(item.production, item.dot).is_none() {
-            twice.add_common(&once, item.lookahead);
-            once.union(item.lookahead);
-        }
-    }
-    Ok(
-        token_list(alloc, rules.terminals, &twice)?
-            .as_slice()
-            .first()
-            .copied(),
-    )
-}
-
-/// The tokens of a set, the end of input last.
-fn token_list(alloc: Global, terminals: usize, set: &Bits) -> Result<Items<Token>, AllocError> {
-    let mut tokens = Items::new(alloc);
-    for (place, word) in set.words().iter().enumerate() {
-        if *word != 0 {
-            add_word_tokens(&mut tokens, terminals, place, *word)?;
-        }
-    }
-    Ok(tokens)
-}
-
-fn add_word_tokens(
-    tokens: &mut Items<Token>,
-    terminals: usize,
-    place: usize,
-    word: u64,
-) -> Result<(), AllocError> {
-    for bit in 0..64usize {
-        if word & (1u64 << bit) != 0 {
-            let number = place.saturating_mul(64).saturating_add(bit);
-            tokens.0.push(token(terminals, number))?;
-        }
-    }
-    Ok(())
-}
-
-fn token(terminals: usize, number: usize) -> Token {
-    if number < terminals {
-        Token::Terminal(number)
-    } else {
-        Token::Eof
-    }
-}
-
-/// A state with its items and reductions, and no shifts and gotos.
-pub fn new_state(
-    alloc: Global,
-    rules: &Rules,
-    items: &[StateItem<'_>],
-) -> Result<Lr1State, AllocError> {
-    let mut state = Lr1State {
-        items: Items::new(alloc),
-        shifts: BTreeMap::new(alloc),
-        reductions: Items::new(alloc),
-        gotos: BTreeMap::new(alloc),
+    found: &mut Moved,
+    symbol: SymbolNumber,
+    item: (usize, usize),
+    lookaheads: &TokenSet,
+) -> Result<(), AllocError>
+    ensures { OnOk result (IsMovedIn found.old found.new symbol item.0 item.1 lookaheads.now) }
+{
+    let mut kernel = match found.remove(&symbol) {
+        None => BTreeMap::new(alloc),
+        Some(kernel) => kernel,
     };
-    for item in items {
-        add_item(alloc, rules, &mut state, item)?;
-    }
-    Ok(state)
+    let dot = item.1.checked_add(1).ok_or(AllocError)?;
+    kernel.insert((item.0, dot), lookaheads.clone()?)?;
+    found.insert(symbol, kernel)?;
+    Ok(())
 }
 
-fn add_item(
+/// The first token on which the items have two actions.
+pub fn conflict(alloc: Global, rules: &Rules, items: &ItemSet) -> Result<Option<Token>, AllocError>
+    ensures { IfOk result (λ o. MatchOption o ((t : Token) → ActsTwice rules.now.all.items items.now.entries t → ⊥) (λ t. ActsTwice rules.now.all.items items.now.entries t × ((u : Token) → IsBefore u t → ActsTwice rules.now.all.items items.now.entries u → ⊥))) }
+{
+    let twice = twice(alloc, rules, items)?;
+    Ok(twice.tokens(alloc)?.first().copied())
+}
+
+/// The tokens on which the items have two actions.
+fn twice(alloc: Global, rules: &Rules, items: &ItemSet) -> Result<TokenSet, AllocError>
+    ensures { IfOk result (λ s. (t : Token) → HasToken s t ↔ ActsTwice rules.now.all.items items.now.entries t) }
+{
+    let mut once = shifted(alloc, rules, items)?;
+    let mut twice = TokenSet::new(alloc);
+    for (item, lookaheads) in items {
+        if rules.next(item.0, item.1).is_none() {
+            twice.add_common(&once, lookaheads)?;
+            once.union(lookaheads)?;
+        }
+    }
+    Ok(twice)
+}
+
+/// The tokens that the items shift.
+fn shifted(alloc: Global, rules: &Rules, items: &ItemSet) -> Result<TokenSet, AllocError>
+    ensures { IfOk result (λ s. (t : Token) → HasToken s t ↔ Shifted rules.now.all.items items.now.entries t) }
+{
+    let mut shifted = TokenSet::new(alloc);
+    for (item, _) in items {
+        if let Some(SymbolNumber::Terminal(number)) = rules.next(item.0, item.1) {
+            shifted.terminals.insert(number)?;
+        }
+    }
+    Ok(shifted)
+}
+
+/// The state of some items, with no shifts and gotos.
+pub fn new_state(alloc: Global, rules: &Rules, items: &ItemSet) -> Result<Lr1State, AllocError>
+    ensures items { IfOk result (λ s. ShowsItems items.now.entries s.items) }
+    ensures reductions { IfOk result (λ s. s.reductions ≡ reductions_of rules.now.all.items s.items) }
+    ensures shifts { IfOk result (λ s. s.shifts.entries ≡ []) }
+    ensures gotos { IfOk result (λ s. s.gotos.entries ≡ []) }
+{
+    let items = shown_items(alloc, items)?;
+    let reductions = reductions(alloc, rules, items.as_slice())?;
+    Ok(Lr1State {
+        items: Items(items),
+        shifts: BTreeMap::new(alloc),
+        reductions: Items(reductions),
+        gotos: BTreeMap::new(alloc),
+    })
+}
+
+/// The items with their lookaheads as lists.
+fn shown_items(alloc: Global, items: &ItemSet) -> Result<Vec<Item>, AllocError>
+    ensures { IfOk result (λ v. ShowsItems items.now.entries v.items) }
+{
+    let mut shown = Vec::new(alloc);
+    for (item, lookaheads) in items {
+        let lookahead = Items(lookaheads.tokens(alloc)?);
+        shown.push(Item {
+            production: item.0,
+            index: item.1,
+            lookahead,
+        })?;
+    }
+    Ok(shown)
+}
+
+/// The complete items that have lookaheads, each with these.
+fn reductions(
     alloc: Global,
     rules: &Rules,
-    state: &mut Lr1State,
-    item: &StateItem<'_>,
-) -> Result<(), AllocError> {
-    let lookahead = token_list(alloc, rules.terminals, item.lookahead)?;
-    let complete = rules.next(item.production, item.dot).is_none();
-    if complete && !lookahead.as_slice().is_empty() {
-        let on = lookahead.clone()?;
-        state.reductions.0.push((on, item.production))?;
+    items: &[Item],
+) -> Result<Vec<(Items<Token>, usize)>, AllocError>
+    ensures { IfOk result (λ v. v.items ≡ reductions_of rules.now.all.items items.now) }
+{
+    let mut reductions = Vec::new(alloc);
+    for item in items {
+        let complete = rules.next(item.production, item.index).is_none();
+        if complete && !item.lookahead.as_slice().is_empty() {
+            reductions.push((item.lookahead.clone()?, item.production))?;
+        }
     }
-    state.items.0.push(Item {
-        production: item.production,
-        index: item.dot,
-        lookahead,
-    })?;
-    Ok(())
+    Ok(reductions)
 }

@@ -1,0 +1,6 @@
+use Rattle.std.proofs.Common.{◌+◌, ◌*◌}
+use Rattle.lp_sets.specs.Members.{ListsBelow}
+use Rattle.lp_sets.proofs.bits.Bits.push_numbers.Given as goal
+
+abbrev pub invariant-loop-bit : goal.invariant-loop-bit
+invariant-loop-bit l = ListsBelow l.self (64 * l.place + l.bit) l.numbers.items

@@ -1,0 +1,4 @@
+pub mod FirstSets
+pub mod FirstTables
+pub mod Members
+pub mod TokenSets
