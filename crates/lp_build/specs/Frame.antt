@@ -1,5 +1,5 @@
 -- The forms around the modules.
-use Rattle.std.specs.Prelude.{ℕ, Bool, List, [], ◌∷◌, ◌++◌, not, map, Option, Some, None, if◌then◌else◌}
+use Rattle.std.specs.Prelude.{ℕ, List, [], ◌∷◌, not, Option, Some, None, if◌then◌else◌}
 use Rattle.std.specs.List.{list_any}
 use Rattle.lp_form.specs.declared.part.Part.{Part}
 use Rattle.lp_form.specs.declared.part.Part.TheVariants as part
@@ -13,9 +13,9 @@ use Rattle.lp_build.specs.declared.frame.Triples.TheVariants as triples
 abbrev pub intern_row : InternEntry → Item
 intern_row e = row (if e.skip then part.InternSkip else part.InternKeep) (e.literal ∷ [])
 
--- and white space, where none is skipped
-abbrev pub intern_rows : List InternEntry → List Item
-intern_rows entries = map intern_row entries ++ leaf_if (not (list_any (λ e. e.skip) entries)) part.WhitespaceRow
+-- white space is skipped where nothing else is
+abbrev pub white_space : List InternEntry → List Item
+white_space entries = leaf_if (not (list_any (λ e. e.skip) entries)) part.WhitespaceRow
 
 -- a text, where it is there
 abbrev pub hole_if : Option (List ℕ) → List (List ℕ)

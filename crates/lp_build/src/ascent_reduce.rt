@@ -1,12 +1,12 @@
 //! Reductions and transitions of recursive ascent.
 
-ghost use Rattle.std.specs.Prelude.{◌≡◌, [], ◌∷◌, ◌++◌, map, IfOk, OnOk, if◌then◌else◌};
+ghost use Rattle.std.specs.Prelude.{◌≡◌, [], ◌∷◌, ◌++◌, map, IfOk, if◌then◌else◌};
 ghost use Rattle.std.specs.Fmt.{decimal};
 ghost use Rattle.lp_build.specs.Ascent.{ascent_span, reduction_lines, token_line};
 ghost use Rattle.lp_build.specs.Built.{leaf_if, text_rows};
 ghost use Rattle.lp_tree.specs.ProgramTree.{head, items, leaf, parts_below};
 
-use super::{add_numbers, bare, text_row};
+use super::{add_if, add_numbers, bare, text_row};
 use lp_form::Part;
 use lp_tree::piece::Piece;
 use lp_tree::tree::Node;
@@ -78,7 +78,7 @@ fn reduce_lines<'t>(alloc: Global, reduction: Reduction<'t>) -> Result<Node<'t>,
     add_numbers(alloc, &mut node, Part::TakeLine, takes.as_slice())?;
     node.add(span_lines(alloc, span)?)?;
     node.add(call_line(alloc, fallible, action, type_arguments, arguments)?)?;
-    add_return(alloc, &mut node, returns)?;
+    add_if(alloc, &mut node, returns, Part::ReturnLine)?;
     Ok(node)
 }
 
@@ -103,17 +103,6 @@ fn call_line<'t>(
         part,
         vec![in alloc; action, type_arguments, arguments]?,
     )
-}
-
-/// Puts the line below the node that answers at once, if it is asked for.
-fn add_return<'t>(alloc: Global, node: &mut Node<'t>, returns: bool) -> Result<(), AllocError>
-    ensures head { head node.new ≡ head node.old }
-    ensures below { OnOk result (parts_below node.new ≡ parts_below node.old ++ leaf_if returns Part.ReturnLine) }
-{
-    if returns {
-        node.add(bare(alloc, Part::ReturnLine)?)?;
-    }
-    Ok(())
 }
 
 /// The part of a token that isn't the last one, or is.
@@ -177,6 +166,6 @@ pub fn transition<'t>(
     let holes = vec![in alloc; target, arguments, symbols, phantom]?;
     let mut node = Node::leaf(alloc, Part::Transition, holes)?;
     add_numbers(alloc, &mut node, Part::TakeLine, takes)?;
-    add_return(alloc, &mut node, returns)?;
+    add_if(alloc, &mut node, returns, Part::ReturnLine)?;
     Ok(node)
 }

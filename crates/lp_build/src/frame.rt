@@ -1,12 +1,12 @@
 //! The forms around the modules.
 
 ghost use Rattle.std.specs.Prelude.{◌≡◌, [], ◌∷◌, ◌++◌, map, IfOk, OnOk, if◌then◌else◌};
-ghost use Rattle.std.specs.List.{flat_map};
+ghost use Rattle.std.specs.List.{flat_map, list_any};
 ghost use Rattle.lp_build.specs.Built.{over};
-ghost use Rattle.lp_build.specs.Frame.{hole_if, intern_row, intern_rows, triple_holes, triple_part};
+ghost use Rattle.lp_build.specs.Frame.{hole_if, intern_row, triple_holes, triple_part, white_space};
 ghost use Rattle.lp_tree.specs.ProgramTree.{head, items, leaf, parts_below, program_items};
 
-use super::{add_text, bare, text_row};
+use super::{add_if, add_text, bare, text_row};
 use lp_form::Part;
 use lp_tree::piece::{Name, Piece};
 use lp_tree::tree::{Node, Program, push_node};
@@ -145,16 +145,21 @@ pub fn token_module<'t>(
     below: Vec<Node<'t>>,
 ) -> Result<Node<'t>, AllocError>
     ensures head { IfOk result (λ n. head n ≡ (Part.TokenModule, [], [])) }
-    ensures below { IfOk result (λ n. parts_below n ≡ flat_map items below.entry.items ++ intern_rows entries.entry.items) }
+    ensures below { IfOk result (λ n. parts_below n ≡ (flat_map items below.entry.items ++ map intern_row entries.entry.items) ++ white_space entries.entry.items) }
 {
     let mut node = bare(alloc, Part::TokenModule)?;
     node.add_all(below)?;
-    let skips = entries.iter().any(|entry| entry.skip);
+    let skips = skips_some(entries.as_slice());
     add_entries(alloc, &mut node, entries)?;
-    if !skips {
-        node.add(bare(alloc, Part::WhitespaceRow)?)?;
-    }
+    add_if(alloc, &mut node, !skips, Part::WhitespaceRow)?;
     Ok(node)
+}
+
+/// Whether the matches of some regular expression are skipped.
+fn skips_some(entries: &[InternEntry<'_>]) -> bool
+    ensures { result ≡ list_any (λ e. e.skip) entries.now }
+{
+    entries.iter().any(|entry| entry.skip)
 }
 
 /// Puts the regular expressions below the node.

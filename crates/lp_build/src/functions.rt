@@ -118,7 +118,7 @@ pub fn parser<'t>(
     ensures head { IfOk result (λ n. head n ≡ (parser_part (list_any (is_part Part.Start) below.entry.items) interned, visibility.entry ∷ public_name.entry ∷ [], [])) }
     ensures below { IfOk result (λ n. parts_below n ≡ flat_map items below.entry.items) }
 {
-    let ascent = below.iter().any(|child| child.is(Part::Start));
+    let ascent = is_by_ascent(below.as_slice());
     let part = parser_part(ascent, interned);
     let mut node = Node::leaf(
         alloc,
@@ -127,6 +127,13 @@ pub fn parser<'t>(
     )?;
     node.add_all(below)?;
     Ok(node)
+}
+
+/// Whether a parser is started by the call of a first state.
+fn is_by_ascent(below: &[Node<'_>]) -> bool
+    ensures { result ≡ list_any (is_part Part.Start) below.now }
+{
+    below.iter().any(|child| child.is(Part::Start))
 }
 
 /// The parser by tables or by recursive ascent, of tokens that are interned or handed in.

@@ -15,7 +15,7 @@ ghost use Rattle.std.specs.Prelude.{◌≡◌, [], ◌∷◌, ◌++◌, map, cod
 ghost use Rattle.std.specs.Fmt.{decimal};
 ghost use Rattle.std.specs.List.{flat_map};
 ghost use Rattle.lp_tree.specs.ProgramTree.{head, items, leaf, parts_below};
-ghost use Rattle.lp_build.specs.Built.{barred, text_if, text_rows};
+ghost use Rattle.lp_build.specs.Built.{barred, leaf_if, text_if, text_rows};
 
 pub use action::{ActionBody, InlineCall, InlineSpan, OuterCall, action_fn};
 pub use ascent::{
@@ -126,6 +126,17 @@ fn add_text<'t>(
         None => Ok(()),
         Some(text) => node.add(text_row(alloc, part, text)?),
     }
+}
+
+/// Puts a part with nothing in it below the node, if it is asked for.
+fn add_if<'t>(alloc: Global, node: &mut Node<'t>, asked: bool, part: Part) -> Result<(), AllocError>
+    ensures head { head node.new ≡ head node.old }
+    ensures below { OnOk result (parts_below node.new ≡ parts_below node.old ++ leaf_if asked part) }
+{
+    if asked {
+        node.add(bare(alloc, part)?)?;
+    }
+    Ok(())
 }
 
 /// The texts joined by ` | `.
