@@ -7,6 +7,7 @@ pub mod Datum
 pub mod Val
 pub mod ValCode
 pub mod ValView
+pub mod ValFalls
 pub mod Reading
 pub mod Numbers
 pub mod Store

@@ -136,7 +136,7 @@ impl Model for Value {
 
     ghost size = { size_of };
 
-    ghost use Rattle.lp_core.specs.ValView.{parts_smaller};
+    ghost use Rattle.lp_core.specs.ValFalls.{parts_smaller};
 
     ghost size_decreases = { λ v _. parts_smaller v.kind };
 }
