@@ -46,7 +46,7 @@ fn fits(setting: &Setting<'_>, case: &Case, v: &Value) -> Option<bool>
 }
 
 fn part_passes(setting: &Setting<'_>, test: Test, part: Option<&Value>) -> Option<bool>
-    ensures { result ≡ part_passes (passes (program_of setting.now) test) (option_copied part) }
+    ensures { result ≡ part_passes (passes (program_of setting.now) test) (option_copied part.entry) }
 {
     match part {
         None => Some(false),
@@ -55,7 +55,7 @@ fn part_passes(setting: &Setting<'_>, test: Test, part: Option<&Value>) -> Optio
 }
 
 fn token_passes(setting: &Setting<'_>, test: Test, triple: Option<&Value>) -> Option<bool>
-    ensures { result ≡ part_passes (second_passes (passes (program_of setting.now) test)) (option_copied triple) }
+    ensures { result ≡ part_passes (second_passes (passes (program_of setting.now) test)) (option_copied triple.entry) }
 {
     match triple {
         None => Some(false),
