@@ -1,6 +1,6 @@
-use Rattle.std.proofs.Common.{◌∙◌}
-use Rattle.std.proofs.lemmas.Result.{IfOk-weaker}
+use Rattle.std.proofs.Common.{◌≡◌, subst, IfOk}
 use Rattle.lp_core.specs.Store.{program_of, store_of}
+use Rattle.lp_core.specs.Effect.{Effect, effect}
 use Rattle.lp_core.proofs.Ops.{Another, of_cell}
 use Rattle.lp_core.proofs.act.do_op.Goals as goal
 
@@ -27,4 +27,6 @@ returns-in_default-clause-does c =
       no_new_cell = n.not-NewCell;
       no_copy_states = n.not-CopyStates
     } in
-    IfOk-weaker _ _ _ (λ d h. h ∙ of_cell (program_of c.args.setting.now) c.args.v (store_of c.args.world.now) c.args.op.now a) c.change_cell.ensures.does
+    let e = of_cell (program_of c.args.setting.now) c.args.v (store_of c.args.world.now) c.args.op.now a in
+    let P : Effect → Type 0 = λ x. IfOk c.change_cell.result (λ d. effect d (store_of c.change_cell.new.world) ≡ x) in
+    subst P e c.change_cell.ensures.does
