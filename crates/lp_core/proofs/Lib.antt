@@ -8,3 +8,5 @@ pub mod Bodies
 pub mod Lists
 pub mod CallEnds
 pub mod Cells
+pub mod Ops
+pub mod Joins

@@ -113,18 +113,22 @@ abbrev pub truncated : Val → Option ℕ → Store → Effect
 truncated a None s = effect.Failed
 truncated a (Some n) s = on_reference s (λ c. changes (cut_to n c)) (cell_of a)
 
+-- what is done with two values that stay
+abbrev pub sides_meaning : Join → Val → Val → Store → Effect
+sides_meaning join.Add a b s = gave (option_and_then sum (indices a b)) s
+sides_meaning join.Multiply a b s = gave (option_and_then product (indices a b)) s
+sides_meaning join.Subtract a b s = gave (option_and_then difference (indices a b)) s
+sides_meaning join.AtLeast a b s = gave (option_map at_least (indices a b)) s
+sides_meaning (join.StateAt kind) a b s = gave (state_in kind a b s) s
+sides_meaning join.Truncate a b s = truncated a (index_of b) s
+sides_meaning _ a b s = effect.Failed
+
 abbrev pub pair_meaning : Program → Join → Val → Val → Store → Effect
-pair_meaning p join.Add a b s = gave (option_and_then sum (indices a b)) s
-pair_meaning p join.Multiply a b s = gave (option_and_then product (indices a b)) s
-pair_meaning p join.Subtract a b s = gave (option_and_then difference (indices a b)) s
-pair_meaning p join.AtLeast a b s = gave (option_map at_least (indices a b)) s
-pair_meaning p (join.StateAt kind) a b s = gave (state_in kind a b s) s
 pair_meaning p join.Push a b s = on_reference s (λ c. changes (pushed b c)) (cell_of a)
-pair_meaning p join.Truncate a b s = truncated a (index_of b) s
 pair_meaning p join.Extend a b s = extended a (option_of b) s
 pair_meaning p join.UnrecognizedToken a b s = gave (unrecognized_token p a b) s
 pair_meaning p join.UnrecognizedEof a b s = gave (unrecognized_eof p a b) s
-pair_meaning p _ a b s = effect.Failed
+pair_meaning p join a b s = sides_meaning join a b s
 
 abbrev pub on_two : Program → Join → Option (Val × Val) → Store → Effect
 on_two p join None s = effect.Failed

@@ -1,10 +1,11 @@
 //! What is done with no value, and with one.
 
-ghost use Rattle.std.specs.Prelude.{◌≡◌, ◌<◌, length, IfSome, IfOk, OnOk, slice_get};
+ghost use Rattle.std.specs.Prelude.{◌≡◌, ◌<◌, pos, [], ◌∷◌, length, IfSome, IfOk, OnOk, slice_get};
 ghost use Rattle.std.specs.Option.{option_map, option_and_then, option_copied};
 ghost use Rattle.lp_core.specs.Reading.{term_of};
-ghost use Rattle.lp_core.specs.Store.{Program, program_of, store_of};
+ghost use Rattle.lp_core.specs.Store.{States, program_of, store_of};
 ghost use Rattle.lp_core.specs.Effect.{effect, stored, written};
+ghost use Rattle.lp_core.specs.Effect as effects;
 ghost use Rattle.lp_core.specs.declared.expr.Leaf.TheVariants as leaf;
 ghost use Rattle.lp_core.specs.OpMeaning as meaning;
 ghost use Rattle.lp_core.specs.OpMeaning.{place, item_val, leaf_meaning, op_meaning, part_of, entry_in, entry, user_error, spanned_token, extra_token, payload, payload_in};
@@ -50,7 +51,7 @@ pub fn do_leaf(
 }
 
 fn new_states(alloc: Global, world: &mut World) -> Result<Done, AllocError>
-    ensures does { IfOk result (λ d. (p : Program) → effect d (store_of world.new) ≡ leaf_meaning p leaf.NewStates (store_of world.old)) }
+    ensures does { IfOk result (λ d. effect d (store_of world.new) ≡ effects.new_cell (States (pos 0 ∷ [])) (store_of world.old)) }
     ensures events { OnOk result (world.new.events ≡ world.old.events) }
 {
     let mut states = Vec::new(alloc);

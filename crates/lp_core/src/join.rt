@@ -5,7 +5,7 @@ ghost use Rattle.std.specs.Option.{option_map, option_and_then, option_copied};
 ghost use Rattle.lp_core.specs.Reading.{one, two, index_of};
 ghost use Rattle.lp_core.specs.Store.{program_of, store_of, calls_of, held};
 ghost use Rattle.lp_core.specs.Effect.{effect};
-ghost use Rattle.lp_core.specs.JoinMeaning.{join_meaning, join_calls, pair_meaning, indices, sum, product, difference, at_least, state_in, option_of, collected, list_val, payloads, tuple_val, with_option, payload_of, texts_of, texts_among, named_text, state_val, truncated, extended, unrecognized_token, unrecognized_eof};
+ghost use Rattle.lp_core.specs.JoinMeaning.{join_meaning, join_calls, pair_meaning, sides_meaning, indices, sum, product, difference, at_least, state_in, option_of, collected, list_val, payloads, tuple_val, with_option, payload_of, texts_of, texts_among, named_text, state_val, truncated, extended, unrecognized_token, unrecognized_eof};
 
 use crate::act::{error_value, spanned_token, text_at};
 use crate::cell::{Cell, typed};
@@ -71,17 +71,27 @@ fn do_pair(
     ensures events { OnOk result (world.new.events ≡ world.old.events) }
 {
     match join {
-        Join::Add => Ok(given(add(&a, &b))),
-        Join::Multiply => Ok(given(multiply(&a, &b))),
-        Join::Subtract => Ok(given(subtract(&a, &b))),
-        Join::AtLeast => Ok(given(at_least(&a, &b))),
-        Join::StateAt(kind) => Ok(given(state_at(world, *kind, &a, &b))),
         Join::Push => push_on(alloc, world, &a, b),
-        Join::Truncate => Ok(truncate(alloc, world, &a, &b)),
         Join::Extend => extend(alloc, world, &a, b),
         Join::UnrecognizedToken => Ok(given(unrecognized_token(alloc, setting, a, b)?)),
         Join::UnrecognizedEof => Ok(given(unrecognized_eof(alloc, setting, a, b)?)),
-        _ => Ok(Done::Stuck),
+        _ => Ok(do_sides(alloc, world, join, &a, &b)),
+    }
+}
+
+// What is done with two values that stay.
+fn do_sides(alloc: Global, world: &mut World, join: &Join, a: &Value, b: &Value) -> Done
+    ensures does { effect result (store_of world.new) ≡ sides_meaning join.now a.now b.now (store_of world.old) }
+    ensures events { world.new.events ≡ world.old.events }
+{
+    match join {
+        Join::Add => given(add(a, b)),
+        Join::Multiply => given(multiply(a, b)),
+        Join::Subtract => given(subtract(a, b)),
+        Join::AtLeast => given(at_least(a, b)),
+        Join::StateAt(kind) => given(state_at(world, *kind, a, b)),
+        Join::Truncate => truncate(alloc, world, a, b),
+        _ => Done::Stuck,
     }
 }
 
