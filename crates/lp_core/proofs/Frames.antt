@@ -1,5 +1,5 @@
 -- The evaluator's moves keep what is left to do.
-use Rattle.std.proofs.Common.{◌≡◌, ℕ, zero, suc, ◌+◌, ◌<◌, Bool, true, false, List, [], ◌∷◌, ◌++◌, Option, Some, None, refl, sym, ap, ◌∙◌, arith, Bor}
+use Rattle.std.proofs.Common.{◌≡◌, ℕ, zero, suc, ◌+◌, ◌<◌, Bool, true, false, List, [], ◌∷◌, ◌++◌, Option, Some, None, refl, sym, ap, ◌∙◌, arith, Bor, eq-eqb}
 use Rattle.std.specs.Prelude.{Vec, slice_get, length, replicate, ◌==◌, if◌then◌else◌}
 use Rattle.std.specs.declared.alloc.Global.{Global}
 use Rattle.lp_core.specs.declared.expr.Op.{Op}
@@ -111,6 +111,22 @@ module _ (p : Program) where
 
   pub enters : (fn : Function) (vs : List Val) (st : State) (b : Bool) → (fn.params == length vs) ≡ b → enter p (Some fn) (run p) vs st ≡ (if b then enter_with p fn (run p) vs st else Stuck st.left st.calls)
   enters fn vs st b is = ap (λ c. if c then enter_with p fn (run p) vs st else Stuck st.left st.calls) is
+
+  pub entered_step : (g : ℕ) (vs : Vec Val Global) (step : Step) (st : State) (left : ℕ) (fn : Function) → st.left ≡ left + 1 → step ≡ s.Enter g vs → Some fn ≡ slice_get p.functions g → fn.params ≡ length vs.items → step_flow p step st ≡ enter_with p fn (run p) vs.items (record st { left = left })
+  entered_step g vs step st left fn lt is found many =
+      called_step g vs step st left lt is
+      ∙ ap (λ o. enter p o (run p) vs.items (record st { left = left })) (sym found)
+      ∙ enters fn vs.items (record st { left = left }) true (eq-eqb fn.params (length vs.items) many)
+
+  -- a return leaves each frame but a call's
+  pub returned : (fr : Frame) (v : Val) (st : State) → ((env : Vec Val Global) (cells : ℕ) → fr ≡ f.Leave env cells → ⊥) → Returns v st ≡ frame_flow p fr (Returns v st)
+  returned (f.Apply op) v st other = refl
+  returned (f.Sequence es) v st other = refl
+  returned (f.Choose a b) v st other = refl
+  returned (f.Select x cases bodies) v st other = refl
+  returned (f.Argument g vs args) v st other = refl
+  returned (f.Turn e) v st other = refl
+  returned (f.Leave env cells) v st other = absurd (other env cells refl)
 
   rest_spent : (frs : List Frame) (calls : List UserCall) → rest p frs (Spent calls) ≡ Spent calls
   rest_spent [] calls = refl

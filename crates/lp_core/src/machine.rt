@@ -7,7 +7,7 @@ ghost use Rattle.lp_core.specs.Val.{Val, Plain};
 ghost use Rattle.lp_core.specs.Tree.{trees_of};
 ghost use Rattle.lp_core.specs.Store.{Program, program_of};
 ghost use Rattle.lp_core.specs.CaseMeaning.{chosen};
-ghost use Rattle.lp_core.specs.Flow.{State, Flow, Gives, with_body, leave};
+ghost use Rattle.lp_core.specs.Flow.{State, Flow, Gives, Returns, with_body, leave};
 ghost use Rattle.lp_core.specs.Eval.{count, run, run_args, run_block, run_at, enter_with};
 ghost use Rattle.lp_core.specs.FrameView.{state_of, done_flow, frame_flow, rest, now_flow, step_flow, pause_flow};
 ghost use Rattle.lp_core.specs.Weight.{weight, weight_all, weight_frame, weights, weight_now};
@@ -221,6 +221,19 @@ fn leave(world: &mut World, env: Vec<Value>, cells: usize)
     world.cells.truncate(cells);
 }
 
+// A return ends at its call.
+fn leave_by<'a>(world: &mut World, frame: Frame<'a>, v: Value) -> Done
+    ensures { (p : Program) (left : ℕ) → done_flow result (state_of world.new left) ≡ frame_flow p frame.entry (Returns v (state_of world.old left)) }
+{
+    match frame {
+        Frame::Leave(env, cells) => {
+            leave(world, env, cells);
+            Done::Valued(v)
+        }
+        _ => Done::Returned(v),
+    }
+}
+
 // Goes on in one frame.
 fn resume<'a>(
     alloc: Global,
@@ -234,13 +247,7 @@ fn resume<'a>(
 {
     match done {
         Done::Valued(v) => resume_with(alloc, setting, world, frame, v),
-        Done::Returned(v) => Ok(Now::Ended(match frame {
-            Frame::Leave(env, cells) => {
-                leave(world, env, cells);
-                Done::Valued(v)
-            }
-            _ => Done::Returned(v),
-        })),
+        Done::Returned(v) => Ok(Now::Ended(leave_by(world, frame, v))),
         Done::Stuck => Ok(Now::Ended(Done::Stuck)),
     }
 }
