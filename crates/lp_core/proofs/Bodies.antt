@@ -1,13 +1,10 @@
 -- The bodies of a match by number.
-use Rattle.std.proofs.Common.{◌≡◌, ℕ, zero, suc, ◌+◌, ◌<◌, List, [], ◌∷◌, Option, Some, None, refl, sym, ap, ◌∙◌, arith, Bor}
+use Rattle.std.proofs.Common.{◌≡◌, ℕ, zero, suc, List, [], ◌∷◌, Some, None, refl, sym, ap, arith}
 use Rattle.std.specs.Prelude.{slice_get, length}
-use Rattle.std.specs.Option.{option_copied}
 use Rattle.lp_core.specs.Tree.{Tree, trees_of}
 use Rattle.lp_core.specs.Store.{Program}
-use Rattle.lp_core.specs.Flow.{State, Flow, stuck}
-use Rattle.lp_core.specs.Weight.{weight, weight_all}
+use Rattle.lp_core.specs.Flow.{State, stuck}
 use Rattle.lp_core.specs.Eval.{Callee, count, eval, eval_at, call_within, run, run_at}
-use Rattle.lp_core.proofs.Less.{nth_less}
 
 pub count_length : (es : List Tree) → count (trees_of es) ≡ length es
 count_length [] = refl

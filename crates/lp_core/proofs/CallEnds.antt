@@ -1,5 +1,5 @@
 -- A call ends with a value, spent or stuck: no `return` leaves it.
-use Rattle.std.proofs.Common.{◌≡◌, ℕ, zero, suc, Bool, true, false, List, Option, Some, None, refl, sym, ap, ◌∙◌, subst}
+use Rattle.std.proofs.Common.{◌≡◌, ℕ, zero, suc, Bool, true, false, List, Option, Some, None, refl, ap, ◌∙◌, subst}
 use Rattle.std.specs.Prelude.{slice_get, length, ◌==◌, if◌then◌else◌}
 use Rattle.lp_core.specs.declared.expr.Function.{Function}
 use Rattle.lp_core.specs.declared.run.Ending.{Ending}

@@ -1,9 +1,8 @@
 -- Steps left never grow, and calls of user code are only added.
-use Rattle.std.proofs.Common.{◌≡◌, ℕ, zero, suc, ◌≤◌, Bool, true, false, List, [], ◌∷◌, ◌++◌, Option, Some, None, arith, sym, ap, ◌∙◌, append_assoc, refl}
+use Rattle.std.proofs.Common.{◌≡◌, ℕ, zero, suc, ◌≤◌, Bool, true, false, List, [], ◌∷◌, ◌++◌, Option, Some, None, arith, ap, ◌∙◌, append_assoc, refl}
 use Rattle.std.specs.Prelude.{slice_get, length, ◌==◌, if◌then◌else◌}
 use Rattle.lp_core.specs.declared.expr.Function.{Function}
 use Rattle.lp_core.specs.declared.expr.Join.{Join}
-use Rattle.lp_core.specs.declared.expr.Op.{Op}
 use Rattle.lp_core.specs.declared.expr.Target.{Target}
 use Rattle.lp_core.specs.declared.expr.Target.TheVariants as target
 use Rattle.lp_core.specs.Datum.{Unset}
@@ -16,7 +15,7 @@ use Rattle.lp_core.specs.Effect.{Effect, Gave, Returned, Failed, written}
 use Rattle.lp_core.specs.OpMeaning.{leaf_meaning, op_meaning}
 use Rattle.lp_core.specs.JoinMeaning.{join_meaning, join_calls}
 use Rattle.lp_core.specs.CaseMeaning.{chosen}
-use Rattle.lp_core.specs.Flow.{State, Flow, Gives, Returns, Spent, Stuck, flow, then_value, choose, over_store, with_body, spend_from, turns, leave, back}
+use Rattle.lp_core.specs.Flow.{State, Flow, Gives, Returns, Spent, Stuck, flow, then_value, choose, over_store, with_body, spend_from, turns, leave}
 use Rattle.lp_core.specs.Eval.{Callee, count, joined, called, apply, eval, eval_args, eval_block, eval_at, entered, enter_with, enter, call_within}
 use Rattle.lp_core.specs.Prefix.{IsPrefix}
 

@@ -1,5 +1,5 @@
 -- The evaluator's moves keep what is left to do.
-use Rattle.std.proofs.Common.{◌≡◌, ℕ, zero, suc, ◌+◌, ◌<◌, Bool, true, false, List, [], ◌∷◌, ◌++◌, Option, Some, None, refl, sym, ap, ◌∙◌, arith, Bor, eq-eqb}
+use Rattle.std.proofs.Common.{◌≡◌, ℕ, zero, suc, ◌+◌, Bool, true, List, [], ◌∷◌, ◌++◌, Some, refl, sym, ap, ◌∙◌, arith, Bor, eq-eqb}
 use Rattle.std.specs.Prelude.{Vec, slice_get, length, replicate, ◌==◌, if◌then◌else◌}
 use Rattle.std.specs.declared.alloc.Global.{Global}
 use Rattle.lp_core.specs.declared.expr.Op.{Op}
@@ -18,12 +18,12 @@ use Rattle.lp_core.specs.declared.machine.Pause.TheVariants as q
 use Rattle.lp_core.specs.declared.world.Done.{Done}
 use Rattle.lp_core.specs.Datum.{Unset}
 use Rattle.lp_core.specs.Val.{Val, Plain}
-use Rattle.lp_core.specs.Tree.{Tree, Apply, If, Match, Loop, Trees, end, more, trees_of}
+use Rattle.lp_core.specs.Tree.{Tree, Apply, If, Match, Loop, end, trees_of}
 use Rattle.lp_core.specs.Reading.{truth_of}
 use Rattle.lp_core.specs.Store.{UserCall, Program}
 use Rattle.lp_core.specs.CaseMeaning.{chosen}
-use Rattle.lp_core.specs.Flow.{State, Flow, Gives, Returns, Spent, Stuck, then_value, choose, with_body, spend_from, turns, leave}
-use Rattle.lp_core.specs.Eval.{apply, count, eval, call_within, run, run_args, run_block, run_at, run_call, enter, enter_with, entered}
+use Rattle.lp_core.specs.Flow.{State, Flow, Returns, Spent, Stuck, then_value, choose, with_body, spend_from, turns, leave}
+use Rattle.lp_core.specs.Eval.{apply, count, run, run_args, run_block, run_at, run_call, enter, enter_with, entered}
 use Rattle.lp_core.specs.FrameView.{done_flow, frame_flow, rest, step_flow, now_flow, pause_flow}
 use Rattle.lp_core.proofs.Same.{run_next, run_if, run_match, run_more, run_end, run_loop}
 

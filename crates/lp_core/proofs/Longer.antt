@@ -1,8 +1,7 @@
 -- With more steps left a run that isn't spent is the same, and a spent run's calls come first.
-use Rattle.std.proofs.Common.{◌≡◌, ℕ, zero, suc, ◌+◌, ◌≤◌, Bool, true, false, List, [], ◌∷◌, ◌++◌, Option, Some, None, arith, subst, sym, ap, ◌∙◌, refl}
+use Rattle.std.proofs.Common.{◌≡◌, ℕ, zero, suc, ◌+◌, ◌≤◌, Bool, true, false, List, [], ◌∷◌, ◌++◌, Option, Some, None, arith, subst, sym, ap, refl}
 use Rattle.std.specs.Prelude.{slice_get, length, ◌==◌, if◌then◌else◌}
 use Rattle.lp_core.specs.declared.expr.Function.{Function}
-use Rattle.lp_core.specs.declared.expr.Join.{Join}
 use Rattle.lp_core.specs.declared.expr.Target.{Target}
 use Rattle.lp_core.specs.declared.expr.Target.TheVariants as target
 use Rattle.lp_core.specs.Datum.{Unset}
@@ -15,12 +14,12 @@ use Rattle.lp_core.specs.Effect.{Effect, Gave, Returned, Failed, written}
 use Rattle.lp_core.specs.OpMeaning.{leaf_meaning, op_meaning}
 use Rattle.lp_core.specs.JoinMeaning.{join_meaning, join_calls}
 use Rattle.lp_core.specs.CaseMeaning.{chosen}
-use Rattle.lp_core.specs.Flow.{State, Flow, Gives, Returns, Spent, Stuck, flow, then_value, choose, over_store, with_body, spend_from, turns, leave, back}
-use Rattle.lp_core.specs.Eval.{Callee, count, joined, called, apply, eval, eval_args, eval_block, eval_at, entered, enter_with, enter, call_within, run, run_call}
+use Rattle.lp_core.specs.Flow.{State, Flow, Gives, Returns, Spent, Stuck, flow, then_value, choose, over_store, with_body, spend_from, turns, leave}
+use Rattle.lp_core.specs.Eval.{Callee, count, called, apply, eval, eval_args, eval_block, eval_at, entered, enter_with, enter, call_within, run, run_call}
 use Rattle.lp_core.specs.Prefix.{IsPrefix}
 use Rattle.lp_core.specs.Budget.{calls_in, more_left, Longer}
 use Rattle.lp_core.proofs.Same.{enter_at}
-use Rattle.lp_core.proofs.Falls.{After, Falls, same_prefix, more_prefix, prefix_trans, then_falls, flow_falls, eval_falls, args_falls, block_falls, at_falls, call_falls}
+use Rattle.lp_core.proofs.Falls.{After, Falls, same_prefix, prefix_trans, flow_falls, eval_falls, args_falls, block_falls, at_falls, call_falls}
 
 abbrev pub LongerTo : ℕ → (State → Flow) → (State → Flow) → Type 0
 LongerTo d go go' = (st : State) → Longer d (go st) (go' (more_left d st))

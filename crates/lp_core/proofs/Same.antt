@@ -14,8 +14,8 @@ use Rattle.lp_core.specs.Store.{Store, UserCall, Program}
 use Rattle.lp_core.specs.Effect.{written}
 use Rattle.lp_core.specs.CaseMeaning.{chosen}
 use Rattle.lp_core.specs.Flow.{State, Flow, Gives, Returns, Spent, Stuck, then_value, choose, over_store, with_body, spend_from, spend, turns, leave}
-use Rattle.lp_core.specs.Eval.{Callee, count, called, joined, apply, eval, eval_args, eval_block, eval_at, entered, enter_with, enter, call_within, run, run_args, run_block, run_at, run_call}
-use Rattle.lp_core.proofs.Falls.{Within, After, Falls, same_prefix, eval_falls, call_falls}
+use Rattle.lp_core.specs.Eval.{Callee, count, called, apply, eval, eval_args, eval_block, eval_at, entered, enter_with, enter, call_within, run, run_args, run_block, run_at, run_call}
+use Rattle.lp_core.proofs.Falls.{After, Falls, same_prefix, eval_falls, call_falls}
 
 -- the same from at most k steps left
 abbrev pub SameTo : ℕ → (State → Flow) → (State → Flow) → Type 0

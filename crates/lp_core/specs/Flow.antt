@@ -1,5 +1,5 @@
 -- How expressions end, and how one goes on with what another gave.
-use Rattle.std.specs.Prelude.{ℕ, zero, suc, Bool, true, false, List, [], ◌∷◌, ◌++◌, take, length, Option, Some, None, slice_get}
+use Rattle.std.specs.Prelude.{ℕ, zero, suc, Bool, true, false, List, take, Option, Some, None}
 use Rattle.lp_core.specs.Val.{Val}
 use Rattle.lp_core.specs.Store.{Store, UserCall}
 use Rattle.lp_core.specs.Effect.{Effect, Gave, Returned, Failed, written}

@@ -1,5 +1,5 @@
 -- What is left to do, as a function on how the expression in hand ends.
-use Rattle.std.specs.Prelude.{ℕ, List, [], ◌∷◌, ◌++◌, slice_get}
+use Rattle.std.specs.Prelude.{ℕ, List, [], ◌∷◌, ◌++◌}
 use Rattle.lp_core.specs.declared.machine.Frame.{Frame}
 use Rattle.lp_core.specs.declared.machine.Frame.TheVariants as f
 use Rattle.lp_core.specs.declared.machine.Step.{Step}
@@ -10,14 +10,12 @@ use Rattle.lp_core.specs.declared.machine.Now.{Now}
 use Rattle.lp_core.specs.declared.machine.Now.TheVariants as n
 use Rattle.lp_core.specs.declared.world.World.{World}
 use Rattle.lp_core.specs.declared.world.Done.{Done}
-use Rattle.lp_core.specs.declared.run.Ending.{Ending}
-use Rattle.lp_core.specs.declared.run.Ending.TheVariants as e
-use Rattle.lp_core.specs.Tree.{Tree, Loop, trees_of}
+use Rattle.lp_core.specs.Tree.{Loop, trees_of}
 use Rattle.lp_core.specs.Reading.{truth_of}
 use Rattle.lp_core.specs.Store.{Program, store_of, calls_of}
 use Rattle.lp_core.specs.Effect.{effect}
 use Rattle.lp_core.specs.CaseMeaning.{chosen}
-use Rattle.lp_core.specs.Flow.{State, Flow, Gives, Spent, Stuck, flow, then_value, choose, with_body, leave}
+use Rattle.lp_core.specs.Flow.{State, Flow, flow, then_value, choose, with_body, leave}
 use Rattle.lp_core.specs.Eval.{apply, count, run, run_args, run_block, run_at, run_call}
 
 -- the world, with so many steps left

@@ -1,4 +1,3 @@
-use Rattle.std.proofs.Common.{sym}
 use Rattle.lp_core.specs.Store.{program_of}
 use Rattle.lp_core.specs.FrameView.{state_of}
 use Rattle.lp_core.proofs.Frames.{next_more}

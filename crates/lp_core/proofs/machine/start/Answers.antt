@@ -1,7 +1,7 @@
 use Rattle.std.proofs.Common.{◌≡◌, refl, sym, ap, ◌∙◌}
 use Rattle.lp_core.specs.NodeView.{tree_of}
 use Rattle.lp_core.specs.Store.{program_of}
-use Rattle.lp_core.specs.Tree.{Tree, Apply, If, Match, trees_of}
+use Rattle.lp_core.specs.Tree.{Apply, If, Match, trees_of}
 use Rattle.lp_core.specs.FrameView.{state_of}
 use Rattle.lp_core.proofs.Frames.{start_apply, start_if, start_match}
 use Rattle.lp_core.proofs.Less.{start_apply_less, start_if_less, start_match_less}
