@@ -5,8 +5,6 @@ pub mod Same
 pub mod Frames
 pub mod Longer
 pub mod Bodies
-pub mod Lists
 pub mod CallEnds
 pub mod Cells
 pub mod Ops
-pub mod Joins

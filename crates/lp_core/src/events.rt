@@ -18,9 +18,9 @@ use lp_repr::values::{Event, Loc, ParseError, SpannedTerm, Term, UserError};
 use lp_repr::{Items, Text};
 use std::alloc::{AllocError, Global};
 
-/// What a call of user code is made with.
+// What a call of user code is made with.
 #[derive(Drop)]
-pub struct CallArguments {
+struct CallArguments {
     params: Vec<Text>,
     args: Vec<SpannedTerm>,
     start: Option<Loc>,

@@ -25,7 +25,7 @@ returns-in_default-clause-does c =
       no_payload = n.not-Payload;
       no_assert = n.not-Assert;
       no_new_cell = n.not-NewCell;
-      no_copy_states = n.not-CopyStates
+      no_copy_states = n.not-CopyStates;
     } in
     let e = of_cell (program_of c.args.setting.now) c.args.v (store_of c.args.world.now) c.args.op.now a in
     let P : Effect → Type 0 = λ x. IfOk c.change_cell.result (λ d. effect d (store_of c.change_cell.new.world) ≡ x) in
