@@ -11,7 +11,7 @@ returns-in-Over c =
     let p = program_of c.args.setting.now in
     let st = state_of c.settle.new.world c.running.left in
     let same : done_flow c.in-Over.done st ≡ run_call p c.args.function c.args.args.items (state_of c.args.world.now c.args.left.now) =
-        sym (ap (λ x. pause_flow p c.settle.new.frames.items x st) c.in-Over.is) ∙ c.in_ok-done.ensures c.running.left ∙ c.running.invariant in
+    sym (ap (λ x. pause_flow p c.settle.new.frames.items x st) c.in-Over.is) ∙ c.in_ok-done.ensures c.running.left ∙ c.running.invariant in
     over_ends p c.args.function c.args.args.items (state_of c.args.world.now c.args.left.now) c.ending_of.result st (done_flow c.in-Over.done st) (c.ending_of.ensures st) same
 
 pub returns-then-left-eq0 : goal.returns-then-left-eq0
