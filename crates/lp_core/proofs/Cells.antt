@@ -1,5 +1,5 @@
 -- One cell of the world is changed.
-use Rattle.std.proofs.Common.{◌≡◌, ℕ, ◌<◌, ◌≤◌, Bool, true, false, List, Option, Some, None, refl, sym, ap, ◌∙◌, length, map}
+use Rattle.std.proofs.Common.{◌≡◌, ℕ, Bool, true, false, List, Option, Some, None, sym, ap, ◌∙◌, map}
 use Rattle.std.specs.Prelude.{slice_get, slice_set, MatchOption, MatchBool}
 use Rattle.std.specs.Option.{option_map, option_and_then}
 use Rattle.std.proofs.lemmas.List.{map-set}
@@ -8,7 +8,7 @@ use Rattle.lp_core.specs.declared.cell.Cell.{Cell}
 use Rattle.lp_core.specs.declared.world.Done.{Done}
 use Rattle.lp_core.specs.Val.{Val}
 use Rattle.lp_core.specs.Store.{Store, Held, held}
-use Rattle.lp_core.specs.Effect.{Effect, Gave, Failed, effect, gave, did, unit}
+use Rattle.lp_core.specs.Effect.{Gave, Failed, effect, gave, did, unit}
 use Rattle.lp_core.specs.CellMeaning.{Change, changes}
 use Rattle.lp_core.specs.OpMeaning.{changed, on_cell}
 
@@ -33,6 +33,3 @@ module _ (env : List Val) (taken n : ℕ) (cells : List Cell) where
       given (over env taken (slice_set cells n new)) ∙ written new unit ∙ ap (changed n (over env taken cells)) (sym (there c (λ x. changes (go x)) is ∙ ap changes h))
   cell_did c new go d false is given h =
       given (over env taken (slice_set cells n new)) ∙ ap (changed n (over env taken cells)) (sym (there c (λ x. changes (go x)) is ∙ ap changes h))
-
-  pub cell_missing : (change : Held → Change) → slice_get cells n ≡ None → Failed ≡ on_cell (over env taken cells) change n
-  cell_missing change is = ap (changed n (over env taken cells)) (sym (ap (option_and_then change) (slice_get-map held cells n ∙ ap (option_map held) is)))

@@ -2,7 +2,7 @@
 use Rattle.std.specs.Prelude.{ℕ, zero, suc, ℤ, Bool, true, false, List, [], ◌∷◌, Option, Some, None, slice_get, ◌==◌, ◌&&◌, int_le}
 use Rattle.std.specs.Option.{option_map, option_and_then}
 use Rattle.std.specs.Str.{bytes_eq}
-use Rattle.lp_driver.specs.Values.{Text, Token}
+use Rattle.lp_driver.specs.Values.{Token}
 use Rattle.lp_core.specs.declared.value.Tag.{Tag}
 use Rattle.lp_core.specs.declared.value.Tag.TheVariants.{Tuple, Absent, Present, Success, Failure, Accept, Reduce, Variant}
 use Rattle.lp_core.specs.declared.value.Tag.TheVariants as tag

@@ -1,8 +1,6 @@
 -- What operations do to one cell: the value and the cell afterwards, or nothing.
 use Rattle.std.specs.Prelude.{ℕ, ◌-◌, ℤ, List, [], ◌∷◌, ◌++◌, length, take, Option, Some, None, is_none, slice_get}
 use Rattle.std.specs.Option.{option_map, option_and_then}
-use Rattle.lp_driver.specs.Values.{Spanned}
-use Rattle.lp_core.specs.declared.value.StateType.{StateType}
 use Rattle.lp_core.specs.declared.expr.Op.{Op}
 use Rattle.lp_core.specs.declared.expr.Op.TheVariants as op
 use Rattle.lp_core.specs.Val.{Val}

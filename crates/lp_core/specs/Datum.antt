@@ -1,5 +1,5 @@
 -- Values without parts.
-use Rattle.std.specs.Prelude.{ℕ, ℤ, Bool, Option, Some, None}
+use Rattle.std.specs.Prelude.{ℕ, ℤ, Bool}
 use Rattle.lp_repr.specs.declared.values.UserError.{UserError}
 use Rattle.lp_driver.specs.Values.{Value, Failure, value_of}
 use Rattle.lp_core.specs.declared.value.StateType.{StateType}

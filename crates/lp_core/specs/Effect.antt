@@ -1,11 +1,11 @@
 -- How an operation ends, and what it does to slots and cells.
 use Rattle.std.specs.Prelude.{ℕ, ◌+◌, Bool, true, false, List, [], ◌∷◌, ◌++◌, length, Option, Some, None, slice_get, slice_set}
-use Rattle.std.specs.Option.{option_map, option_and_then}
+use Rattle.std.specs.Option.{option_and_then}
 use Rattle.lp_core.specs.declared.value.Tag.TheVariants as tag
 use Rattle.lp_core.specs.declared.world.Done.{Done}
 use Rattle.lp_core.specs.declared.world.Done.TheVariants as d
 use Rattle.lp_core.specs.Datum.{Datum, Unset, Cell}
-use Rattle.lp_core.specs.Val.{Val, Plain, Made}
+use Rattle.lp_core.specs.Val.{Val, Plain}
 use Rattle.lp_core.specs.Reading.{empty, datum}
 use Rattle.lp_core.specs.Store.{Store, Held}
 

@@ -1,9 +1,8 @@
 -- What is done with several values, after so many calls of user code.
-use Rattle.std.specs.Prelude.{ℕ, ◌+◌, ◌*◌, ◌-◌, nat_le, List, [], ◌∷◌, ◌++◌, length, Option, Some, None, slice_get}
+use Rattle.std.specs.Prelude.{ℕ, ◌+◌, ◌*◌, nat_le, List, [], ◌∷◌, ◌++◌, Option, Some, None, slice_get}
 use Rattle.std.specs.Option.{option_map, option_and_then, option_to_list}
-use Rattle.lp_repr.specs.declared.values.Loc.{Loc}
 use Rattle.lp_repr.specs.declared.values.ParseError.TheVariants as failure
-use Rattle.lp_driver.specs.Values.{Text, Token, Value, Payload, Tuple, Spanned}
+use Rattle.lp_driver.specs.Values.{Text, Value, Payload, Tuple}
 use Rattle.lp_core.specs.declared.value.Tag.{Tag}
 use Rattle.lp_core.specs.declared.value.Tag.TheVariants as tag
 use Rattle.lp_core.specs.declared.value.StateType.{StateType}
@@ -12,11 +11,11 @@ use Rattle.lp_core.specs.declared.expr.Join.TheVariants as join
 use Rattle.lp_core.specs.Datum.{Datum, Parsed, Written}
 use Rattle.lp_core.specs.Val.{Val, Plain, Made, vals_of}
 use Rattle.lp_core.specs.Reading.{datum, parts_of, list_parts, index_of, cell_of, term_of, location_of, one, two}
-use Rattle.lp_core.specs.Numbers.{index, truth, typed, index_within, index_less}
+use Rattle.lp_core.specs.Numbers.{truth, typed, index_within, index_less}
 use Rattle.lp_core.specs.Store.{Store, Program, UserCall, Held}
 use Rattle.lp_core.specs.Effect.{Effect, Gave, gave, unit}
 use Rattle.lp_core.specs.Effect as effect
-use Rattle.lp_core.specs.CellMeaning.{Change, changes, pushed, cut_to, state_at}
+use Rattle.lp_core.specs.CellMeaning.{changes, pushed, cut_to, state_at}
 use Rattle.lp_core.specs.OpMeaning.{failure_val, spanned_token, on_reference, cell_at}
 use Rattle.lp_core.specs.CallMeaning.{user_call, answer}
 

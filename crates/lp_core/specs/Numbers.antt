@@ -1,5 +1,5 @@
 -- Numbers of printed types.
-use Rattle.std.specs.Prelude.{ℕ, zero, suc, ◌+◌, ◌-◌, ◌*◌, ◌^◌, ℤ, pos, negsuc, ◌+ℤ◌, ◌-ℤ◌, neg_ℤ, int_lt, nat_le, nat_lt, ◌||◌, Bool, Option, Some, None, if◌then◌else◌}
+use Rattle.std.specs.Prelude.{ℕ, ◌+◌, ◌-◌, ◌^◌, ℤ, pos, negsuc, ◌+ℤ◌, ◌-ℤ◌, neg_ℤ, int_lt, nat_le, nat_lt, ◌||◌, Bool, Option, Some, None, if◌then◌else◌}
 use Rattle.std.specs.Option.{option_map, option_and_then}
 use Rattle.lp_core.specs.declared.value.StateType.{StateType}
 use Rattle.lp_core.specs.declared.value.StateType.TheVariants.{I8, I16, I32}

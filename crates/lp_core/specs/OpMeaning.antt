@@ -18,7 +18,7 @@ use Rattle.lp_core.specs.declared.expr.Table.{Table}
 use Rattle.lp_core.specs.Datum.{Datum, Unset, Parsed, Failed, Blamed, Written}
 use Rattle.lp_core.specs.Val.{Val, Plain}
 use Rattle.lp_core.specs.Reading.{datum, parts, parts_of, truth_of, index_of, cell_of, term_of, spanned_of, empty, wrapped, triple, location}
-use Rattle.lp_core.specs.Numbers.{index, truth, number, typed, as_index, number_of, successor, predecessor, negated}
+use Rattle.lp_core.specs.Numbers.{index, truth, typed, as_index, number_of, successor, predecessor, negated}
 use Rattle.lp_core.specs.Store.{Store, Program, Held, Slot, States}
 use Rattle.lp_core.specs.Effect.{Effect, Gave, Returned, gave, did, stored, with_slot, written, all_written, set_value, with_cell, new_cell, new_cell_of}
 use Rattle.lp_core.specs.Effect as effect

@@ -1,12 +1,12 @@
 -- What a value is read as, if it is of the kind that is wanted.
-use Rattle.std.specs.Prelude.{ℕ, ℤ, Bool, List, [], ◌∷◌, length, Option, Some, None, slice_get}
-use Rattle.std.specs.Option.{option_map, option_and_then}
+use Rattle.std.specs.Prelude.{ℕ, ℤ, Bool, List, [], ◌∷◌, Option, Some, None}
+use Rattle.std.specs.Option.{option_and_then}
 use Rattle.lp_repr.specs.declared.values.Loc.{Loc}
 use Rattle.lp_driver.specs.Values.{Value, Location, Spanned}
 use Rattle.lp_core.specs.declared.value.Tag.{Tag}
 use Rattle.lp_core.specs.declared.value.Tag.TheVariants as tag
-use Rattle.lp_core.specs.Datum.{Datum, Unset, Truth, Index, Number, Parsed, Cell, Param, Written}
-use Rattle.lp_core.specs.Val.{Val, Plain, Made, vals_of, list_of, end, more}
+use Rattle.lp_core.specs.Datum.{Datum, Truth, Index, Number, Parsed, Cell}
+use Rattle.lp_core.specs.Val.{Val, Plain, Made, list_of, end, more}
 
 abbrev pub datum : Val → Option Datum
 datum (Plain d) = Some d

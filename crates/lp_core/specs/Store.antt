@@ -1,5 +1,5 @@
 -- What a run changes, and what it goes by.
-use Rattle.std.specs.Prelude.{ℕ, ℤ, Bool, List, map, Option, Some, None}
+use Rattle.std.specs.Prelude.{ℕ, ℤ, Bool, List, map, Option}
 use Rattle.lp_repr.specs.declared.values.Loc.{Loc}
 use Rattle.lp_repr.specs.declared.values.RunItem.{RunItem}
 use Rattle.lp_repr.specs.declared.values.Term.{Term}

@@ -1,5 +1,5 @@
 -- The values of a running program, with no pointers.
-use Rattle.std.specs.Prelude.{ℕ, ◌+◌, List, [], ◌∷◌, Option, Some, None}
+use Rattle.std.specs.Prelude.{ℕ, ◌+◌, List, [], ◌∷◌}
 use Rattle.lp_core.specs.declared.value.Tag.{Tag}
 use Rattle.lp_core.specs.Datum.{Datum}
 

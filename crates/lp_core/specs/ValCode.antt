@@ -1,5 +1,5 @@
 -- A value is told by its tokens, which a stack gives back.
-use Rattle.std.specs.Prelude.{◌≡◌, ℕ, List, [], ◌∷◌, ◌++◌, refl}
+use Rattle.std.specs.Prelude.{◌≡◌, List, [], ◌∷◌, ◌++◌, refl}
 use Rattle.std.proofs.Common.{ap, ◌∙◌, append_assoc}
 use Rattle.lp_core.specs.declared.value.Tag.{Tag}
 use Rattle.lp_core.specs.Datum.{Datum, Unset}
