@@ -1,5 +1,5 @@
 -- The evaluator's moves make what is to be done less.
-use Rattle.std.proofs.Common.{◌≡◌, ℕ, zero, suc, ◌+◌, ◌<◌, List, [], ◌∷◌, ◌++◌, Option, Some, None, refl, sym, ap, ◌∙◌, arith, Bor}
+use Rattle.std.proofs.Common.{◌≡◌, ℕ, zero, suc, ◌+◌, ◌<◌, List, [], ◌∷◌, ◌++◌, Some, ap, arith, Bor}
 use Rattle.std.specs.Prelude.{Vec, slice_get}
 use Rattle.std.specs.declared.alloc.Global.{Global}
 use Rattle.lp_core.specs.declared.expr.Op.{Op}
@@ -11,7 +11,7 @@ use Rattle.lp_core.specs.declared.machine.Frame.TheVariants as f
 use Rattle.lp_core.specs.declared.machine.Now.{Now}
 use Rattle.lp_core.specs.declared.machine.Now.TheVariants as n
 use Rattle.lp_core.specs.declared.world.Done.{Done}
-use Rattle.lp_core.specs.Tree.{Tree, Apply, If, Match, Trees, trees_of}
+use Rattle.lp_core.specs.Tree.{Tree, Apply, If, Match, trees_of}
 use Rattle.lp_core.specs.Weight.{weight, weight_all, weight_frame, weights, weight_now}
 
 pub weights_push : (frs : List Frame) (fr : Frame) → weights (frs ++ fr ∷ []) ≡ weights frs + weight_frame fr

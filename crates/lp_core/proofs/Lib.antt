@@ -1,1 +1,10 @@
 pub mod Less
+pub mod Values
+pub mod Falls
+pub mod Same
+pub mod Frames
+pub mod Longer
+pub mod Bodies
+pub mod CallEnds
+pub mod Cells
+pub mod Ops

@@ -1,5 +1,8 @@
 //! Expressions of the core language. Names are slots of the call's frame.
 
+ghost use Rattle.std.specs.Prelude.{◌≡◌, IfOk};
+ghost use Rattle.lp_core.specs.Tree.{Plain, Apply, If, Match, Loop, Call, Block, trees_of};
+
 use crate::value::{StateType, Tag};
 use lp_repr::Text;
 use std::alloc::{AllocError, Global};
@@ -191,41 +194,57 @@ impl Model for Expr {
 }
 
 impl Expr {
-    pub fn plain(leaf: Leaf) -> Expr {
+    pub fn plain(leaf: Leaf) -> Expr
+        ensures { result ≡ Plain leaf }
+    {
         Expr {
             node: Node::Plain(leaf),
         }
     }
 
-    pub fn read(slot: usize) -> Expr {
+    pub fn read(slot: usize) -> Expr
+        ensures { result ≡ Plain (Leaf.Read slot) }
+    {
         Expr::plain(Leaf::Read(slot))
     }
 
-    pub fn take(slot: usize) -> Expr {
+    pub fn take(slot: usize) -> Expr
+        ensures { result ≡ Plain (Leaf.Take slot) }
+    {
         Expr::plain(Leaf::Take(slot))
     }
 
-    pub fn index(n: usize) -> Expr {
+    pub fn index(n: usize) -> Expr
+        ensures { result ≡ Plain (Leaf.Index n) }
+    {
         Expr::plain(Leaf::Index(n))
     }
 
     /// What has no meaning.
-    pub fn stuck() -> Expr {
+    pub fn stuck() -> Expr
+        ensures { result ≡ Plain Leaf.Stuck }
+    {
         Expr::plain(Leaf::Stuck)
     }
 
-    pub fn apply(alloc: Global, op: Op, e: Expr) -> Result<Expr, AllocError> {
+    pub fn apply(alloc: Global, op: Op, e: Expr) -> Result<Expr, AllocError>
+        ensures { IfOk result (λ r. r ≡ Apply op e) }
+    {
         Ok(Expr {
             node: Node::Apply(op, Box::new(alloc, e)?),
         })
     }
 
     /// `let` and assignment.
-    pub fn write(alloc: Global, slot: usize, e: Expr) -> Result<Expr, AllocError> {
+    pub fn write(alloc: Global, slot: usize, e: Expr) -> Result<Expr, AllocError>
+        ensures { IfOk result (λ r. r ≡ Apply (Op.Write slot) e) }
+    {
         Expr::apply(alloc, Op::Write(slot), e)
     }
 
-    pub fn choose(alloc: Global, test: Expr, yes: Expr, no: Expr) -> Result<Expr, AllocError> {
+    pub fn choose(alloc: Global, test: Expr, yes: Expr, no: Expr) -> Result<Expr, AllocError>
+        ensures { IfOk result (λ r. r ≡ If test yes no) }
+    {
         Ok(Expr {
             node: Node::If(
                 Box::new(alloc, test)?,
@@ -242,31 +261,41 @@ impl Expr {
         slot: usize,
         cases: Vec<Case>,
         bodies: Vec<Expr>,
-    ) -> Result<Expr, AllocError> {
+    ) -> Result<Expr, AllocError>
+        ensures { IfOk result (λ r. r ≡ Match value slot cases.items (trees_of bodies.items)) }
+    {
         Ok(Expr {
             node: Node::Match(Box::new(alloc, value)?, slot, cases, bodies),
         })
     }
 
-    pub fn repeat(alloc: Global, turn: Expr) -> Result<Expr, AllocError> {
+    pub fn repeat(alloc: Global, turn: Expr) -> Result<Expr, AllocError>
+        ensures { IfOk result (λ r. r ≡ Loop turn) }
+    {
         Ok(Expr {
             node: Node::Loop(Box::new(alloc, turn)?),
         })
     }
 
-    pub fn call(function: usize, args: Vec<Expr>) -> Expr {
+    pub fn call(function: usize, args: Vec<Expr>) -> Expr
+        ensures { result ≡ Call (Target.Function function) (trees_of args.items) }
+    {
         Expr {
             node: Node::Call(Target::Function(function), args),
         }
     }
 
-    pub fn join(join: Join, args: Vec<Expr>) -> Expr {
+    pub fn join(join: Join, args: Vec<Expr>) -> Expr
+        ensures { result ≡ Call (Target.Join join) (trees_of args.items) }
+    {
         Expr {
             node: Node::Call(Target::Join(join), args),
         }
     }
 
-    pub fn block(parts: Vec<Expr>) -> Expr {
+    pub fn block(parts: Vec<Expr>) -> Expr
+        ensures { result ≡ Block (trees_of parts.items) }
+    {
         Expr {
             node: Node::Block(parts),
         }

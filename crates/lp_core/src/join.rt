@@ -1,25 +1,40 @@
 //! What is done with several values.
 
-use crate::act::{done, error_value, given, spanned_token};
+ghost use Rattle.std.specs.Prelude.{◌≡◌, [], ◌++◌, Some, None, length, IfOk, OnOk, MatchOption};
+ghost use Rattle.std.specs.Option.{option_map, option_and_then, option_copied};
+ghost use Rattle.lp_core.specs.Reading.{one, two, index_of};
+ghost use Rattle.lp_core.specs.Store.{program_of, store_of, calls_of, held};
+ghost use Rattle.lp_core.specs.Effect.{effect};
+ghost use Rattle.lp_core.specs.JoinMeaning.{join_meaning, join_calls, pair_meaning, sides_meaning, indices, sum, product, difference, at_least, state_in, option_of, collected, list_val, payloads, tuple_val, with_option, payload_of, texts_of, texts_among, named_text, state_val, truncated, extended, unrecognized_token, unrecognized_eof};
+
+use crate::act::{error_value, spanned_token, text_at};
 use crate::cell::{Cell, typed};
+use crate::copies::copied_text;
+use crate::events::user_call;
 use crate::expr::Join;
+use crate::numbers::{difference, product, sum};
+use crate::slots::{cell_at, cut, done, given, push_on};
 use crate::value::{Atom, StateType, Tag, Value};
 use crate::world::{Done, Setting, World};
-use lp_repr::values::{Event, Loc, ParseError, SpannedTerm, Term, UserError};
+use lp_repr::values::{ParseError, Term};
 use lp_repr::{Items, Text};
 use std::alloc::{AllocError, Global};
 
+/// What is done with several values.
 pub fn do_join(
     alloc: Global,
     setting: &Setting<'_>,
     world: &mut World,
     join: &Join,
     values: Vec<Value>,
-) -> Result<Done, AllocError> {
+) -> Result<Done, AllocError>
+    ensures does { IfOk result (λ d. effect d (store_of world.new) ≡ join_meaning (program_of setting.now) (length (calls_of world.old)) join.now values.items (store_of world.old)) }
+    ensures calls { OnOk result (calls_of world.new ≡ calls_of world.old ++ join_calls (program_of setting.now) (length (calls_of world.old)) join.now values.items) }
+{
     match join {
         Join::Make(tag) => Ok(Done::Valued(Value::made(*tag, values))),
-        Join::Collect => Ok(given(collected(alloc, values)?)),
-        Join::Payloads => Ok(given(payloads(alloc, values)?)),
+        Join::Collect => Ok(given(collected_list(alloc, values)?)),
+        Join::Payloads => Ok(given(payload_tuple(alloc, values)?)),
         Join::Event {
             code,
             fallible,
@@ -33,7 +48,9 @@ pub fn do_join(
 }
 
 // The two of a list of two.
-fn two(mut values: Vec<Value>) -> Option<(Value, Value)> {
+fn two(mut values: Vec<Value>) -> Option<(Value, Value)>
+    ensures { result ≡ two values.items }
+{
     if values.len() != 2 {
         return None;
     }
@@ -49,102 +66,217 @@ fn do_pair(
     join: &Join,
     a: Value,
     b: Value,
-) -> Result<Done, AllocError> {
+) -> Result<Done, AllocError>
+    ensures does { IfOk result (λ d. effect d (store_of world.new) ≡ pair_meaning (program_of setting.now) join.now a b (store_of world.old)) }
+    ensures events { OnOk result (world.new.events ≡ world.old.events) }
+{
     match join {
-        Join::Add | Join::Multiply | Join::Subtract => Ok(given(combined(join, &a, &b))),
-        Join::AtLeast => Ok(given(at_least(&a, &b))),
-        Join::StateAt(kind) => Ok(given(state_at(world, *kind, &a, &b))),
-        Join::Push => Ok(done(alloc, push(world, &a, b)?)),
-        Join::Truncate => Ok(done(alloc, truncate(world, &a, &b))),
-        Join::Extend => Ok(done(alloc, extend(world, &a, b)?)),
-        Join::UnrecognizedToken => unrecognized_token(alloc, setting, a, b),
-        Join::UnrecognizedEof => unrecognized_eof(alloc, setting, a, b),
-        _ => Ok(Done::Stuck),
+        Join::Push => push_on(alloc, world, &a, b),
+        Join::Extend => extend(alloc, world, &a, b),
+        Join::UnrecognizedToken => Ok(given(unrecognized_token(alloc, setting, a, b)?)),
+        Join::UnrecognizedEof => Ok(given(unrecognized_eof(alloc, setting, a, b)?)),
+        _ => Ok(do_sides(alloc, world, join, &a, &b)),
     }
 }
 
-fn combined(join: &Join, a: &Value, b: &Value) -> Option<Value> {
-    let x = a.as_index()?;
-    let y = b.as_index()?;
-    let n = match join {
-        Join::Add => x.checked_add(y)?,
-        Join::Multiply => x.checked_mul(y)?,
-        _ => x.checked_sub(y)?,
-    };
-    Some(Value::index(n))
-}
-
-fn at_least(a: &Value, b: &Value) -> Option<Value> {
-    let least = b.as_index()?;
-    Some(Value::bool(a.as_index()? >= least))
-}
-
-fn state_at(world: &World, kind: StateType, a: &Value, b: &Value) -> Option<Value> {
-    let cell = world.cells.get(a.as_cell()?)?;
-    let state = cell.state(b.as_index()?)?;
-    typed(kind, i64::from(state))
-}
-
-fn push(world: &mut World, a: &Value, b: Value) -> Result<bool, AllocError> {
-    match a.as_cell() {
-        Some(n) => {
-            if n >= world.cells.len() {
-                return Ok(false);
-            }
-            world.cells[n].push(b)
-        }
-        None => Ok(false),
+// What is done with two values that stay.
+fn do_sides(alloc: Global, world: &mut World, join: &Join, a: &Value, b: &Value) -> Done
+    ensures does { effect result (store_of world.new) ≡ sides_meaning join.now a.now b.now (store_of world.old) }
+    ensures events { world.new.events ≡ world.old.events }
+{
+    match join {
+        Join::Add => given(add(a, b)),
+        Join::Multiply => given(multiply(a, b)),
+        Join::Subtract => given(subtract(a, b)),
+        Join::AtLeast => given(at_least(a, b)),
+        Join::StateAt(kind) => given(state_at(world, *kind, a, b)),
+        Join::Truncate => truncate(alloc, world, a, b),
+        _ => Done::Stuck,
     }
 }
 
-fn truncate(world: &mut World, a: &Value, b: &Value) -> bool {
-    match (a.as_cell(), b.as_index()) {
-        (Some(n), Some(length)) => {
-            if n >= world.cells.len() {
-                return false;
-            }
-            world.cells[n].truncate(length)
-        }
-        _ => false,
+// Two `usize`.
+fn indices(a: &Value, b: &Value) -> Option<(usize, usize)>
+    ensures { result ≡ indices a.now b.now }
+{
+    match a.as_index() {
+        None => None,
+        Some(m) => match b.as_index() {
+            None => None,
+            Some(n) => Some((m, n)),
+        },
+    }
+}
+
+fn add(a: &Value, b: &Value) -> Option<Value>
+    ensures { result ≡ option_and_then sum (indices a.now b.now) }
+{
+    match indices(a, b) {
+        None => None,
+        Some((m, n)) => sum(m, n),
+    }
+}
+
+fn multiply(a: &Value, b: &Value) -> Option<Value>
+    ensures { result ≡ option_and_then product (indices a.now b.now) }
+{
+    match indices(a, b) {
+        None => None,
+        Some((m, n)) => product(m, n),
+    }
+}
+
+fn subtract(a: &Value, b: &Value) -> Option<Value>
+    ensures { result ≡ option_and_then difference (indices a.now b.now) }
+{
+    match indices(a, b) {
+        None => None,
+        Some((m, n)) => difference(m, n),
+    }
+}
+
+fn at_least(a: &Value, b: &Value) -> Option<Value>
+    ensures { result ≡ option_map at_least (indices a.now b.now) }
+{
+    match indices(a, b) {
+        None => None,
+        Some((m, n)) => Some(Value::bool(n <= m)),
+    }
+}
+
+fn state_at(world: &World, kind: StateType, a: &Value, b: &Value) -> Option<Value>
+    ensures { result ≡ state_in kind a.now b.now (store_of world.now) }
+{
+    match b.as_index() {
+        None => None,
+        Some(i) => match cell_at(world, a) {
+            None => None,
+            Some(cell) => state_of_cell(kind, i, cell),
+        },
+    }
+}
+
+fn state_of_cell(kind: StateType, i: usize, cell: &Cell) -> Option<Value>
+    ensures { result ≡ state_val kind i (held cell.now) }
+{
+    match cell.state(i) {
+        None => None,
+        Some(state) => typed(kind, i64::from(state)),
+    }
+}
+
+fn truncate(alloc: Global, world: &mut World, a: &Value, b: &Value) -> Done
+    ensures does { effect result (store_of world.new) ≡ truncated a.now (index_of b.now) (store_of world.old) }
+    ensures events { world.new.events ≡ world.old.events }
+{
+    match b.as_index() {
+        None => Done::Stuck,
+        Some(length) => cut(alloc, world, a, length),
     }
 }
 
 // `extend` by an option: pushes what it holds.
-fn extend(world: &mut World, a: &Value, b: Value) -> Result<bool, AllocError> {
-    match b.into_parts() {
-        Some((Tag::Present, mut parts)) => match parts.pop() {
-            None => Ok(false),
-            Some(v) => push(world, a, v),
+fn extend(alloc: Global, world: &mut World, a: &Value, b: Value) -> Result<Done, AllocError>
+    ensures does { IfOk result (λ d. effect d (store_of world.new) ≡ extended a.now (option_of b) (store_of world.old)) }
+    ensures events { OnOk result (world.new.events ≡ world.old.events) }
+{
+    match option_of(b) {
+        None => Ok(Done::Stuck),
+        Some(None) => match a.as_cell() {
+            None => Ok(Done::Stuck),
+            Some(_) => Ok(done(alloc, true)),
         },
-        Some((Tag::Absent, _)) => Ok(a.as_cell().is_some()),
-        _ => Ok(false),
+        Some(Some(v)) => push_on(alloc, world, a, v),
     }
 }
 
-fn collected(alloc: Global, values: Vec<Value>) -> Result<Option<Value>, AllocError> {
+// What an option holds; nothing where the value is no option.
+fn option_of(v: Value) -> Option<Option<Value>>
+    ensures { result ≡ option_of v }
+{
+    match v.into_parts() {
+        Some((Tag::Present, parts)) => match one(parts) {
+            None => None,
+            Some(v) => Some(Some(v)),
+        },
+        Some((Tag::Absent, _)) => Some(None),
+        _ => None,
+    }
+}
+
+// The one of a list of one.
+fn one(mut parts: Vec<Value>) -> Option<Value>
+    ensures { result ≡ one parts.items }
+{
+    if parts.len() != 1 {
+        return None;
+    }
+    parts.pop()
+}
+
+fn collected_list(alloc: Global, values: Vec<Value>) -> Result<Option<Value>, AllocError>
+    ensures { IfOk result (λ o. o ≡ option_map list_val (collected [] values.items)) }
+{
+    match collected(alloc, values)? {
+        None => Ok(None),
+        Some(kept) => Ok(Some(Value::made(Tag::List, kept))),
+    }
+}
+
+fn collected(alloc: Global, values: Vec<Value>) -> Result<Option<Vec<Value>>, AllocError>
+    ensures { IfOk result (λ o. MatchOption o (collected [] values.items ≡ None) (λ l. collected [] values.items ≡ Some l.items)) }
+{
     let mut kept = Vec::new(alloc);
     for v in values {
-        match v.into_parts() {
-            Some((Tag::Present, mut parts)) => match parts.pop() {
-                None => return Ok(None),
-                Some(v) => kept.push(v)?,
-            },
-            Some((Tag::Absent, _)) => {}
-            _ => return Ok(None),
+        match option_of(v) {
+            None => return Ok(None),
+            Some(o) => kept = with_option(kept, o)?,
         }
     }
-    Ok(Some(Value::made(Tag::List, kept)))
+    Ok(Some(kept))
 }
 
-fn payloads(alloc: Global, values: Vec<Value>) -> Result<Option<Value>, AllocError> {
-    let mut texts = Vec::new(alloc);
-    for v in values {
-        match v.into_term() {
-            Some(Term::Payload(text)) => texts.push(text)?,
-            _ => return Ok(None),
+fn with_option(mut held: Vec<Value>, o: Option<Value>) -> Result<Vec<Value>, AllocError>
+    ensures { IfOk result (λ l. l.items ≡ with_option held.items o) }
+{
+    match o {
+        None => Ok(held),
+        Some(v) => {
+            held.push(v)?;
+            Ok(held)
         }
     }
-    Ok(Some(Value::term(Term::Tuple(Items(texts)))))
+}
+
+fn payload_tuple(alloc: Global, values: Vec<Value>) -> Result<Option<Value>, AllocError>
+    ensures { IfOk result (λ o. o ≡ option_map tuple_val (payloads [] values.items)) }
+{
+    match payloads(alloc, values)? {
+        None => Ok(None),
+        Some(texts) => Ok(Some(Value::term(Term::Tuple(texts)))),
+    }
+}
+
+fn payloads(alloc: Global, values: Vec<Value>) -> Result<Option<Items<Text>>, AllocError>
+    ensures { IfOk result (λ o. o ≡ payloads [] values.items) }
+{
+    let mut texts = Vec::new(alloc);
+    for v in values {
+        match payload_text(v) {
+            None => return Ok(None),
+            Some(text) => texts.push(text)?,
+        }
+    }
+    Ok(Some(Items(texts)))
+}
+
+fn payload_text(v: Value) -> Option<Text>
+    ensures { result ≡ payload_of v }
+{
+    match v.into_term() {
+        Some(Term::Payload(text)) => Some(text),
+        _ => None,
+    }
 }
 
 /// The texts that a list of texts names.
@@ -152,24 +284,38 @@ pub fn texts_of(
     alloc: Global,
     setting: &Setting<'_>,
     v: &Value,
-) -> Result<Option<Vec<Text>>, AllocError> {
-    let mut texts = Vec::new(alloc);
-    if v.tag() != Some(Tag::List) {
-        return Ok(None);
+) -> Result<Option<Vec<Text>>, AllocError>
+    ensures { IfOk result (λ o. MatchOption o (texts_of (program_of setting.now) v.now ≡ None) (λ l. texts_of (program_of setting.now) v.now ≡ Some l.items)) }
+{
+    match v.as_list() {
+        None => Ok(None),
+        Some(parts) => texts_among(alloc, setting, parts),
     }
-    for i in 0..v.count() {
-        match text_at(setting, v, i) {
+}
+
+fn texts_among(
+    alloc: Global,
+    setting: &Setting<'_>,
+    values: &[Value],
+) -> Result<Option<Vec<Text>>, AllocError>
+    ensures { IfOk result (λ o. MatchOption o (texts_among (program_of setting.now) [] values.now ≡ None) (λ l. texts_among (program_of setting.now) [] values.now ≡ Some l.items)) }
+{
+    let mut texts = Vec::new(alloc);
+    for v in values {
+        match named_text(setting, v) {
             None => return Ok(None),
-            Some(text) => texts.push(text.clone()?)?,
+            Some(text) => texts.push(copied_text(text)?)?,
         }
     }
     Ok(Some(texts))
 }
 
-// The text that a part of a list names.
-fn text_at<'p>(setting: &Setting<'p>, v: &Value, i: usize) -> Option<&'p Text> {
-    match v.part(i)?.as_atom() {
-        Some(Atom::Text(n)) => setting.code.texts.get(*n),
+// The text that a value names.
+fn named_text<'p>(setting: &Setting<'p>, v: &Value) -> Option<&'p Text>
+    ensures { option_copied result ≡ named_text (program_of setting.now) v.now }
+{
+    match v.as_atom() {
+        Some(Atom::Text(n)) => text_at(&setting.code.texts, *n),
         _ => None,
     }
 }
@@ -179,16 +325,19 @@ fn unrecognized_token(
     setting: &Setting<'_>,
     token: Value,
     expected: Value,
-) -> Result<Done, AllocError> {
-    match (spanned_token(token), texts_of(alloc, setting, &expected)?) {
-        (Some(token), Some(texts)) => error_value(
-            alloc,
-            ParseError::UnrecognizedToken {
-                token,
-                expected: Items(texts),
-            },
-        ),
-        _ => Ok(Done::Stuck),
+) -> Result<Option<Value>, AllocError>
+    ensures { IfOk result (λ o. o ≡ unrecognized_token (program_of setting.now) token expected) }
+{
+    match spanned_token(token) {
+        None => Ok(None),
+        Some(token) => match texts_of(alloc, setting, &expected)? {
+            None => Ok(None),
+            Some(texts) => {
+                let expected = Items(texts);
+                let error = ParseError::UnrecognizedToken { token, expected };
+                Ok(Some(error_value(alloc, error)?))
+            }
+        },
     }
 }
 
@@ -197,121 +346,18 @@ fn unrecognized_eof(
     setting: &Setting<'_>,
     location: Value,
     expected: Value,
-) -> Result<Done, AllocError> {
-    match (location.as_location(), texts_of(alloc, setting, &expected)?) {
-        (Some(location), Some(texts)) => error_value(
-            alloc,
-            ParseError::UnrecognizedEof {
-                location,
-                expected: Items(texts),
-            },
-        ),
-        _ => Ok(Done::Stuck),
-    }
-}
-
-// What a call of user code is made with.
-#[derive(Drop)]
-struct CallArguments {
-    params: Vec<Text>,
-    args: Vec<SpannedTerm>,
-    place: Option<(Loc, Loc)>,
-}
-
-fn user_call(
-    alloc: Global,
-    setting: &Setting<'_>,
-    world: &mut World,
-    code: usize,
-    fallible: bool,
-    params: usize,
-    values: Vec<Value>,
-) -> Result<Done, AllocError> {
-    let Some(text) = setting.code.texts.get(code) else {
-        return Ok(Done::Stuck);
-    };
-    let Some(given) = arguments(alloc, setting, params, values)? else {
-        return Ok(Done::Stuck);
-    };
-    let number = u64::try_from(world.events.len()).unwrap_or(u64::MAX);
-    let CallArguments {
-        params,
-        args,
-        place,
-    } = given;
-    world.events.push(Event {
-        number,
-        code: text.clone()?,
-        params: Items(params),
-        args: Items(args),
-        place,
-    })?;
-    Ok(Done::Valued(answer(alloc, setting, fallible, number)?))
-}
-
-// What a call of user code gives.
-fn answer(
-    alloc: Global,
-    setting: &Setting<'_>,
-    fallible: bool,
-    number: u64,
-) -> Result<Value, AllocError> {
-    let value = Value::term(Term::Result(number));
-    if !fallible {
-        return Ok(value);
-    }
-    if setting.failing.contains(&number) {
-        let error = ParseError::User {
-            error: UserError::Call(number),
-        };
-        let error = Value::plain(Atom::Error(Box::new(alloc, error)?));
-        return Value::wrapped(alloc, Tag::Failure, error);
-    }
-    Value::wrapped(alloc, Tag::Success, value)
-}
-
-// The parameters, then the triples; two locations are the place.
-fn arguments(
-    alloc: Global,
-    setting: &Setting<'_>,
-    params: usize,
-    values: Vec<Value>,
-) -> Result<Option<CallArguments>, AllocError> {
-    let mut given = CallArguments {
-        params: Vec::new(alloc),
-        args: Vec::new(alloc),
-        place: None,
-    };
-    let mut start = None;
-    for v in values {
-        if given.params.len() < params {
-            match param_of(setting, &v) {
-                None => return Ok(None),
-                Some(text) => given.params.push(text.clone()?)?,
+) -> Result<Option<Value>, AllocError>
+    ensures { IfOk result (λ o. o ≡ unrecognized_eof (program_of setting.now) location expected) }
+{
+    match location.as_location() {
+        None => Ok(None),
+        Some(location) => match texts_of(alloc, setting, &expected)? {
+            None => Ok(None),
+            Some(texts) => {
+                let expected = Items(texts);
+                let error = ParseError::UnrecognizedEof { location, expected };
+                Ok(Some(error_value(alloc, error)?))
             }
-        } else if let Some(l) = v.as_location() {
-            match start {
-                None => start = Some(l),
-                Some(first) => given.place = Some((first, l)),
-            }
-        } else {
-            match spanned_term(v) {
-                None => return Ok(None),
-                Some(triple) => given.args.push(triple)?,
-            }
-        }
+        },
     }
-    Ok(Some(given))
-}
-
-fn param_of<'p>(setting: &Setting<'p>, v: &Value) -> Option<&'p Text> {
-    match v.as_atom() {
-        Some(Atom::Param(n)) => setting.params.get(*n),
-        _ => None,
-    }
-}
-
-fn spanned_term(v: Value) -> Option<SpannedTerm> {
-    let (start, v, end) = v.into_spanned()?;
-    Some((start, v.into_term()?, end))
 }

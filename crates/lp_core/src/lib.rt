@@ -3,11 +3,17 @@
 #![tactic(auto)]
 
 pub mod act;
+pub mod cases;
 pub mod cell;
+pub mod copies;
+pub mod events;
 pub mod expr;
 pub mod join;
+pub mod laws;
 pub mod machine;
+pub mod numbers;
 pub mod run;
+pub mod slots;
 pub mod value;
 pub mod world;
 

@@ -1,16 +1,24 @@
 //! The evaluator, whose frames stand in a `Vec`: it goes on until a step is to be made.
 
-ghost use Rattle.std.specs.Prelude.{◌≡◌, ◌+◌, ◌<◌, ◌∷◌, [], IfOk, MatchOption, List, slice_get};
+ghost use Rattle.std.specs.Prelude.{◌≡◌, ℕ, ◌+◌, ◌<◌, ◌++◌, ◌∷◌, [], replicate, Some, IfOk, MatchOption, slice_get};
 ghost use Rattle.std.specs.Option.{option_copied};
+ghost use Rattle.lp_core.specs.Datum.{Unset};
+ghost use Rattle.lp_core.specs.Val.{Val, Plain};
 ghost use Rattle.lp_core.specs.Tree.{trees_of};
+ghost use Rattle.lp_core.specs.Store.{Program, program_of};
+ghost use Rattle.lp_core.specs.CaseMeaning.{chosen};
+ghost use Rattle.lp_core.specs.Flow.{State, Flow, Gives, Returns, with_body, leave};
+ghost use Rattle.lp_core.specs.Eval.{count, run, run_args, run_block, run_at, enter_with};
+ghost use Rattle.lp_core.specs.FrameView.{state_of, done_flow, frame_flow, rest, now_flow, step_flow, pause_flow};
 ghost use Rattle.lp_core.specs.Weight.{weight, weight_all, weight_frame, weights, weight_now};
 
-use crate::act::{do_leaf, do_op, write};
-use crate::expr::{Case, Expr, Node, Op, Place, Target, Test};
+use crate::act::{do_leaf, do_op};
+use crate::cases::chosen;
+use crate::expr::{Case, Expr, Function, Node, Op, Target};
 use crate::join::do_join;
-use crate::value::{Atom, Value};
+use crate::slots::write;
+use crate::value::Value;
 use crate::world::{Done, Setting, World};
-use lp_repr::values::Term;
 use std::alloc::{AllocError, Global};
 use std::mem;
 
@@ -59,7 +67,8 @@ fn start<'a>(
     frames: &mut Vec<Frame<'a>>,
     e: &'a Expr,
 ) -> Result<Now<'a>, AllocError>
-    ensures { IfOk result (λ now. weights frames.new.items + weight_now now < weights frames.old.items + weight e.now) }
+    ensures same { IfOk result (λ now. (left : ℕ) → rest (program_of setting.now) frames.new.items (now_flow (program_of setting.now) now (state_of world.new left)) ≡ rest (program_of setting.now) frames.old.items (run (program_of setting.now) e.now (state_of world.old left))) }
+    ensures smaller { IfOk result (λ now. weights frames.new.items + weight_now now < weights frames.old.items + weight e.now) }
 {
     match &e.node {
         Node::Plain(l) => Ok(Now::Ended(do_leaf(alloc, setting, world, l)?)),
@@ -91,7 +100,8 @@ fn next_argument<'a>(
     values: Vec<Value>,
     args: &'a [Expr],
 ) -> Result<Now<'a>, AllocError>
-    ensures { IfOk result (λ now. weights frames.new.items + weight_now now < weights frames.old.items + weight_all (trees_of args.now)) }
+    ensures same { IfOk result (λ now. (left : ℕ) → rest (program_of setting.now) frames.new.items (now_flow (program_of setting.now) now (state_of world.new left)) ≡ rest (program_of setting.now) frames.old.items (run_args (program_of setting.now) target.now (trees_of args.now) values.items (state_of world.old left))) }
+    ensures smaller { IfOk result (λ now. weights frames.new.items + weight_now now < weights frames.old.items + weight_all (trees_of args.now)) }
 {
     match split(args) {
         None => match target {
@@ -111,7 +121,8 @@ fn next_of_block<'a>(
     es: &'a [Expr],
     value: Value,
 ) -> Result<Now<'a>, AllocError>
-    ensures { IfOk result (λ now. weights frames.new.items + weight_now now < weights frames.old.items + weight_all (trees_of es.now)) }
+    ensures same { IfOk result (λ now. (p : Program) (st : State) → rest p frames.new.items (now_flow p now st) ≡ rest p frames.old.items (run_block p (trees_of es.now) value st)) }
+    ensures smaller { IfOk result (λ now. weights frames.new.items + weight_now now < weights frames.old.items + weight_all (trees_of es.now)) }
 {
     match split(es) {
         None => Ok(Now::Ended(Done::Valued(value))),
@@ -130,7 +141,8 @@ fn resume_with<'a>(
     frame: Frame<'a>,
     v: Value,
 ) -> Result<Now<'a>, AllocError>
-    ensures { IfOk result (λ now. weight_now now < weight_frame frame.entry) }
+    ensures same { IfOk result (λ now. (left : ℕ) → now_flow (program_of setting.now) now (state_of world.new left) ≡ frame_flow (program_of setting.now) frame.entry (Gives v (state_of world.old left))) }
+    ensures smaller { IfOk result (λ now. weight_now now < weight_frame frame.entry) }
 {
     match frame {
         Frame::Apply(op) => Ok(Now::Ended(do_op(alloc, setting, world, op, v)?)),
@@ -154,6 +166,7 @@ fn resume_with<'a>(
 }
 
 // Goes on with the body of the first case that fits a value.
+#[tactic(auto, using(crate::proofs::Bodies::count_length))]
 fn select<'a>(
     setting: &Setting<'_>,
     world: &mut World,
@@ -162,20 +175,35 @@ fn select<'a>(
     bodies: &'a [Expr],
     v: Value,
 ) -> Now<'a>
-    ensures { weight_now result < weight_all (trees_of bodies.now) + 1 }
+    ensures same { (left : ℕ) → now_flow (program_of setting.now) result (state_of world.new left) ≡ with_body x v (run_at (program_of setting.now) (trees_of bodies.now)) (chosen (program_of setting.now) cases.now (count (trees_of bodies.now)) v) (state_of world.old left) }
+    ensures smaller { weight_now result < weight_all (trees_of bodies.now) + 1 }
 {
     match chosen(setting, cases, bodies.len(), &v) {
         None => Now::Ended(Done::Stuck),
-        Some(body) => match nth(bodies, body) {
-            None => Now::Ended(Done::Stuck),
-            Some(e) => {
-                if write(world, x, v) {
-                    Now::Eval(e)
-                } else {
-                    Now::Ended(Done::Stuck)
-                }
-            }
-        },
+        Some(body) => with_body(world, x, bodies, body, v),
+    }
+}
+
+// Goes on with the body of a number, the value in its slot.
+fn with_body<'a>(world: &mut World, x: usize, bodies: &'a [Expr], body: usize, v: Value) -> Now<'a>
+    ensures same { (p : Program) (left : ℕ) → now_flow p result (state_of world.new left) ≡ with_body x v (run_at p (trees_of bodies.now)) (Some body) (state_of world.old left) }
+    ensures smaller { weight_now result < weight_all (trees_of bodies.now) + 1 }
+{
+    if write(world, x, v) {
+        body_at(bodies, body)
+    } else {
+        Now::Ended(Done::Stuck)
+    }
+}
+
+// The body of a number, if there is one.
+fn body_at(bodies: &[Expr], body: usize) -> Now<'_>
+    ensures same { (p : Program) (st : State) → now_flow p result st ≡ run_at p (trees_of bodies.now) body st }
+    ensures smaller { weight_now result < weight_all (trees_of bodies.now) + 1 }
+{
+    match nth(bodies, body) {
+        None => Now::Ended(Done::Stuck),
+        Some(e) => Now::Eval(e),
     }
 }
 
@@ -185,52 +213,25 @@ fn nth(bodies: &[Expr], body: usize) -> Option<&Expr>
     bodies.get(body)
 }
 
-// The number of the body of the first case that fits, else of the last of so many bodies.
-fn chosen(setting: &Setting<'_>, cases: &[Case], bodies: usize, v: &Value) -> Option<usize> {
-    for case in cases {
-        if fits(setting, case, v)? {
-            return Some(case.body);
-        }
-    }
-    bodies.checked_sub(1)
-}
-
-// Whether a case fits a value; none where the value is of another kind.
-fn fits(setting: &Setting<'_>, case: &Case, v: &Value) -> Option<bool> {
-    match case.place {
-        Place::Here => passes(setting, case.test, v),
-        Place::Inside => match v.part(0) {
-            None => Some(false),
-            Some(part) => passes(setting, case.test, part),
-        },
-        Place::TokenInside => match v.part(0) {
-            None => Some(false),
-            Some(triple) => passes(setting, case.test, triple.part(1)?),
-        },
-    }
-}
-
-fn passes(setting: &Setting<'_>, test: Test, v: &Value) -> Option<bool> {
-    match test {
-        Test::Between(low, high) => {
-            let n = crate::act::number(v)?;
-            Some(low <= n && n <= high)
-        }
-        Test::Is(tag) => Some(v.tag()? == tag),
-        Test::Form(text) => match v.as_atom()? {
-            Atom::Term(Term::Token(token)) => {
-                let form = setting.code.texts.get(text)?;
-                Some(form.as_str() == token.form.as_str())
-            }
-            _ => None,
-        },
-    }
-}
-
 // Back in the caller.
-fn leave(world: &mut World, env: Vec<Value>, cells: usize) {
+fn leave(world: &mut World, env: Vec<Value>, cells: usize)
+    ensures { (v : Val) (left : ℕ) → Gives v (state_of world.new left) ≡ leave env.items cells (Gives v (state_of world.old left)) }
+{
     world.env = env;
     world.cells.truncate(cells);
+}
+
+// A return ends at its call.
+fn leave_by<'a>(world: &mut World, frame: Frame<'a>, v: Value) -> Done
+    ensures { (p : Program) (left : ℕ) → done_flow result (state_of world.new left) ≡ frame_flow p frame.entry (Returns v (state_of world.old left)) }
+{
+    match frame {
+        Frame::Leave(env, cells) => {
+            leave(world, env, cells);
+            Done::Valued(v)
+        }
+        _ => Done::Returned(v),
+    }
 }
 
 // Goes on in one frame.
@@ -241,17 +242,12 @@ fn resume<'a>(
     frame: Frame<'a>,
     done: Done,
 ) -> Result<Now<'a>, AllocError>
-    ensures { IfOk result (λ now. weight_now now < weight_frame frame.entry) }
+    ensures same { IfOk result (λ now. (left : ℕ) → now_flow (program_of setting.now) now (state_of world.new left) ≡ frame_flow (program_of setting.now) frame.entry (done_flow done (state_of world.old left))) }
+    ensures smaller { IfOk result (λ now. weight_now now < weight_frame frame.entry) }
 {
     match done {
         Done::Valued(v) => resume_with(alloc, setting, world, frame, v),
-        Done::Returned(v) => Ok(Now::Ended(match frame {
-            Frame::Leave(env, cells) => {
-                leave(world, env, cells);
-                Done::Valued(v)
-            }
-            _ => Done::Returned(v),
-        })),
+        Done::Returned(v) => Ok(Now::Ended(leave_by(world, frame, v))),
         Done::Stuck => Ok(Now::Ended(Done::Stuck)),
     }
 }
@@ -263,7 +259,9 @@ pub fn settle<'a>(
     world: &mut World,
     frames: &mut Vec<Frame<'a>>,
     first: Now<'a>,
-) -> Result<Pause<'a>, AllocError> {
+) -> Result<Pause<'a>, AllocError>
+    ensures { IfOk result (λ pause. (left : ℕ) → pause_flow (program_of setting.now) frames.new.items pause (state_of world.new left) ≡ rest (program_of setting.now) frames.old.items (now_flow (program_of setting.now) first.entry (state_of world.old left))) }
+{
     let mut now = first;
     'settling: loop {
         now = match now {
@@ -287,33 +285,56 @@ pub fn make_step<'a>(
     world: &mut World,
     frames: &mut Vec<Frame<'a>>,
     step: Step<'a>,
-) -> Result<Now<'a>, AllocError> {
+) -> Result<Now<'a>, AllocError>
+    ensures { IfOk result (λ now. (left : ℕ) → rest (program_of setting.now) frames.new.items (now_flow (program_of setting.now) now (state_of world.new left)) ≡ rest (program_of setting.now) frames.old.items (step_flow (program_of setting.now) step.entry (state_of world.old (left + 1)))) }
+{
     match step {
         Step::Again(e) => {
             frames.push(Frame::Turn(e))?;
             Ok(Now::Eval(e))
         }
-        Step::Enter(f, values) => match setting.code.functions.get(f) {
+        Step::Enter(f, values) => match function_at(&setting.code.functions, f) {
             None => Ok(Now::Ended(Done::Stuck)),
             Some(function) => {
-                if function.params != values.len() {
-                    return Ok(Now::Ended(Done::Stuck));
+                if function.params == values.len() {
+                    enter(world, frames, function, values)
+                } else {
+                    Ok(Now::Ended(Done::Stuck))
                 }
-                let env = with_slots(values, function.slots)?;
-                let caller = mem::replace(&mut world.env, env);
-                frames.push(Frame::Leave(caller, world.cells.len()))?;
-                Ok(Now::Eval(&function.body))
             }
         },
     }
 }
 
+// Enters a function that has as many parameters as there are values.
+fn enter<'a>(
+    world: &mut World,
+    frames: &mut Vec<Frame<'a>>,
+    function: &'a Function,
+    values: Vec<Value>,
+) -> Result<Now<'a>, AllocError>
+    ensures { IfOk result (λ now. (p : Program) (left : ℕ) → rest p frames.new.items (now_flow p now (state_of world.new left)) ≡ rest p frames.old.items (enter_with p function.now (run p) values.items (state_of world.old left))) }
+{
+    let env = with_slots(values, function.slots)?;
+    let caller = mem::replace(&mut world.env, env);
+    frames.push(Frame::Leave(caller, world.cells.len()))?;
+    Ok(Now::Eval(&function.body))
+}
+
 // The slots of a new call.
-fn with_slots(mut values: Vec<Value>, slots: usize) -> Result<Vec<Value>, AllocError> {
+fn with_slots(mut values: Vec<Value>, slots: usize) -> Result<Vec<Value>, AllocError>
+    ensures { IfOk result (λ env. env.items ≡ values.items ++ replicate slots (Plain Unset)) }
+{
     for _i in 0..slots {
         values.push(Value::unset())?;
     }
     Ok(values)
+}
+
+fn function_at(functions: &[Function], f: usize) -> Option<&Function>
+    ensures { option_copied result ≡ slice_get functions.now f }
+{
+    functions.get(f)
 }
 
 // The first expression, and the others.

@@ -1,5 +1,12 @@
 //! A call of a printed function, under the steps that are left.
 
+ghost use Rattle.std.specs.Prelude.{IfOk};
+ghost use Rattle.lp_core.specs.Store.{program_of};
+ghost use Rattle.lp_core.specs.Eval.{run_call};
+ghost use Rattle.lp_core.specs.Flow.{State};
+ghost use Rattle.lp_core.specs.FrameView.{state_of, done_flow};
+ghost use Rattle.lp_core.specs.Endings.{Ends, as_call};
+
 use crate::machine::{Now, Pause, Step, make_step, settle};
 use crate::value::Value;
 use crate::world::{Done, Setting, World};
@@ -15,7 +22,8 @@ pub enum Ending {
     Stuck,
 }
 
-/// Calls a function, by its number. The call is a step; `left` is how many steps are left.
+/// Calls a function, by its number. The call is a step; `left` is how many steps are left. The
+/// answer, the calls of user code and the steps that are left then are those that the call means.
 pub fn call(
     alloc: Global,
     setting: &Setting<'_>,
@@ -23,13 +31,14 @@ pub fn call(
     left: &mut u64,
     function: usize,
     args: Vec<Value>,
-) -> Result<Ending, AllocError> {
+) -> Result<Ending, AllocError>
+    ensures { IfOk result (λ ending. Ends ending (state_of world.new left.new) (run_call (program_of setting.now) function args.items (state_of world.old left.old))) }
+{
     let mut frames = Vec::new(alloc);
     let mut now = Now::Make(Step::Enter(function, args));
     'running: loop {
         match settle(alloc, setting, world, &mut frames, now)? {
-            Pause::Over(Done::Valued(v)) => return Ok(Ending::Value(v)),
-            Pause::Over(_) => return Ok(Ending::Stuck),
+            Pause::Over(done) => return Ok(ending_of(done)),
             Pause::Wants(step) => {
                 if *left == 0 {
                     return Ok(Ending::Spent);
@@ -38,5 +47,15 @@ pub fn call(
                 now = make_step(setting, world, &mut frames, step)?;
             }
         }
+    }
+}
+
+// How a call ended that is over.
+fn ending_of(done: Done) -> Ending
+    ensures { (st : State) → Ends result st (as_call (done_flow done st)) }
+{
+    match done {
+        Done::Valued(v) => Ending::Value(v),
+        _ => Ending::Stuck,
     }
 }

@@ -1,7 +1,20 @@
 //! The values of a running program.
 
+ghost use Rattle.std.specs.Prelude.{◌≡◌, ◌||◌, int_lt, if◌then◌else◌, Some, None, IfOk, MatchOption, length, slice_get};
+ghost use Rattle.std.specs.Option.{option_copied, option_map};
+ghost use Rattle.lp_driver.specs.Values.{value_of};
+ghost use Rattle.lp_core.specs.Datum as atom;
+ghost use Rattle.lp_core.specs.Datum.{datum_of};
+ghost use Rattle.lp_core.specs.Val.{vals_of, Made};
+ghost use Rattle.lp_core.specs.Val as val;
+ghost use Rattle.lp_core.specs.Reading.{datum, parts_of, parts, tag_of, index_of, state_of, truth_of, cell_of, location_of, term_of, empty, wrapped, triple, location, option_val, three, spanned_of, span_in, list_parts};
+ghost use Rattle.lp_core.specs.declared.value.Tag.TheVariants as tag;
+ghost use Rattle.lp_core.specs.Numbers.{fitting, index, truth};
+
+use crate::copies::{copied_error, copied_term, copied_user_error};
 use lp_repr::values::{Loc, RunParseError, Term, UserError};
 use std::alloc::{AllocError, Global};
+use std::marker::Model;
 
 /// A printed state type.
 #[derive(Clone, Copy, Debug, PartialEq, Eq)]
@@ -13,16 +26,25 @@ pub enum StateType {
 
 impl StateType {
     /// The number, if it is in the range of this type.
-    pub fn fitting(self, number: i64) -> Option<i32> {
-        let (low, high) = match self {
-            StateType::I8 => (i64::from(i8::MIN), i64::from(i8::MAX)),
-            StateType::I16 => (i64::from(i16::MIN), i64::from(i16::MAX)),
-            StateType::I32 => (i64::from(i32::MIN), i64::from(i32::MAX)),
-        };
-        if number < low || number > high {
-            return None;
+    pub fn fitting(self, number: i64) -> Option<i32>
+        ensures { result ≡ fitting self number }
+    {
+        match self {
+            StateType::I8 => within(number, -128, 127),
+            StateType::I16 => within(number, -32768, 32767),
+            StateType::I32 => within(number, -2147483648, 2147483647),
         }
-        i32::try_from(number).ok()
+    }
+}
+
+// The number, if it is between these, both included.
+fn within(number: i64, low: i32, high: i32) -> Option<i32>
+    ensures { result ≡ (if int_lt number low || int_lt high number then None else Some number) }
+{
+    if number < i64::from(low) || i64::from(high) < number {
+        None
+    } else {
+        Some(number as i32)
     }
 }
 
@@ -66,31 +88,72 @@ pub enum Atom {
     Cell(usize),
 }
 
+/// An atom, which contracts see with no box.
+#[derive(Drop)]
+struct Plain {
+    atom: Atom,
+}
+
+impl Model for Plain {
+    ghost use Rattle.lp_core.specs.Datum.{Datum, datum_of};
+
+    ghost Value = { Datum };
+
+    ghost view = { λ p. datum_of p.atom };
+}
+
 #[cycle(values)]
 #[derive(Drop)]
 enum Kind {
-    Plain(Atom),
+    Plain(Plain),
     Made(Tag, Vec<Value>),
 }
 
-/// A value of a running program.
+/// A value of a running program, which contracts see with no pointers.
 #[cycle(values)]
 #[derive(Drop)]
 pub struct Value {
     kind: Kind,
 }
 
+impl Model for Value {
+    ghost use Rattle.lp_core.specs.Val.{Val};
+
+    ghost Value = { Val };
+
+    ghost use Rattle.std.specs.Prelude.{List};
+    ghost use Rattle.std.specs.Coded.{codes, code_by};
+    ghost use Rattle.lp_core.specs.contracts.value.Tag as tag;
+    ghost use Rattle.lp_core.specs.contracts.value.Plain as plain;
+    ghost use Rattle.lp_core.specs.ValCode.{Token, tokens, value_from, from_tokens};
+
+    ghost coded = { code_by (List Token) (Prim.hlevel (codes, tag.the_row.coded, plain.the_row.coded)) tokens value_from from_tokens };
+
+    ghost use Rattle.lp_core.specs.ValView.{val_of};
+    ghost use Rattle.lp_core.specs.Val.{size_of};
+
+    ghost view = { λ v. val_of v.kind };
+
+    ghost size = { size_of };
+
+    ghost use Rattle.lp_core.specs.ValFalls.{parts_smaller};
+
+    ghost size_decreases = { λ v _. parts_smaller v.kind };
+}
+
 impl Atom {
     /// Another atom like this one.
-    pub fn copied(&self) -> Result<Atom, AllocError> {
+    pub fn copied(&self, alloc: Global) -> Result<Atom, AllocError>
+        ensures { IfOk result (λ copy. datum_of copy ≡ datum_of self.now) }
+    {
         Ok(match self {
             Atom::Unset => Atom::Unset,
             Atom::Bool(b) => Atom::Bool(*b),
             Atom::Index(n) => Atom::Index(*n),
             Atom::State(kind, n) => Atom::State(*kind, *n),
-            Atom::Term(t) => Atom::Term(t.clone()?),
-            Atom::Error(e) => Atom::Error(e.clone()?),
-            Atom::User(e) => Atom::User(e.clone()?),
+            Atom::Term(t) => Atom::Term(copied_term(alloc, t)?),
+            Atom::Error(e) => Atom::Error(Box::new(alloc, copied_error(alloc, e)?)?),
+            Atom::User(e) => Atom::User(copied_user_error(e)?),
             Atom::Text(n) => Atom::Text(*n),
             Atom::Param(n) => Atom::Param(*n),
             Atom::Cell(n) => Atom::Cell(*n),
@@ -98,56 +161,98 @@ impl Atom {
     }
 }
 
+impl Plain {
+    fn copied(&self, alloc: Global) -> Result<Plain, AllocError>
+        ensures { IfOk result (λ copy. copy ≡ self.now) }
+    {
+        Ok(Plain {
+            atom: self.atom.copied(alloc)?,
+        })
+    }
+
+    fn as_atom(&self) -> &Atom
+        ensures { datum_of result.now ≡ self.now }
+    {
+        &self.atom
+    }
+
+    fn into_atom(self) -> Atom
+        ensures { datum_of result ≡ self }
+    {
+        self.atom
+    }
+}
+
 impl Value {
     /// A value without parts.
-    pub fn plain(atom: Atom) -> Value {
+    pub fn plain(atom: Atom) -> Value
+        ensures { result ≡ val.Plain (datum_of atom) }
+    {
         Value {
-            kind: Kind::Plain(atom),
+            kind: Kind::Plain(Plain { atom }),
         }
     }
 
     /// A value with these parts.
-    pub fn made(tag: Tag, parts: Vec<Value>) -> Value {
+    pub fn made(tag: Tag, parts: Vec<Value>) -> Value
+        ensures { result ≡ Made tag (vals_of parts.items) }
+    {
         Value {
             kind: Kind::Made(tag, parts),
         }
     }
 
     /// The value of a name that has none yet.
-    pub fn unset() -> Value {
+    pub fn unset() -> Value
+        ensures { result ≡ val.Plain atom.Unset }
+    {
         Value::plain(Atom::Unset)
     }
 
-    pub fn index(n: usize) -> Value {
+    pub fn index(n: usize) -> Value
+        ensures { result ≡ index n }
+    {
         Value::plain(Atom::Index(n))
     }
 
-    pub fn bool(b: bool) -> Value {
+    pub fn bool(b: bool) -> Value
+        ensures { result ≡ truth b }
+    {
         Value::plain(Atom::Bool(b))
     }
 
-    pub fn term(t: Term) -> Value {
+    pub fn term(t: Term) -> Value
+        ensures { result ≡ val.Plain (atom.Parsed (value_of t)) }
+    {
         Value::plain(Atom::Term(t))
     }
 
-    pub fn location(l: Loc) -> Value {
+    pub fn location(l: Loc) -> Value
+        ensures { result ≡ location l }
+    {
         Value::term(Term::Location(l))
     }
 
     /// A value with no parts, as `()` and `None`.
-    pub fn empty(alloc: Global, tag: Tag) -> Value {
+    pub fn empty(alloc: Global, tag: Tag) -> Value
+        ensures { result ≡ empty tag }
+    {
         Value::made(tag, Vec::new(alloc))
     }
 
     /// A value with one part, as `Some(v)`.
-    pub fn wrapped(alloc: Global, tag: Tag, v: Value) -> Result<Value, AllocError> {
+    pub fn wrapped(alloc: Global, tag: Tag, v: Value) -> Result<Value, AllocError>
+        ensures { IfOk result (λ w. w ≡ wrapped tag v) }
+    {
         let mut parts = Vec::new(alloc);
         parts.push(v)?;
         Ok(Value::made(tag, parts))
     }
 
     /// An option as a value.
-    pub fn option(alloc: Global, o: Option<Value>) -> Result<Value, AllocError> {
+    pub fn option(alloc: Global, o: Option<Value>) -> Result<Value, AllocError>
+        ensures { IfOk result (λ w. w ≡ option_val o) }
+    {
         match o {
             None => Ok(Value::empty(alloc, Tag::Absent)),
             Some(v) => Value::wrapped(alloc, Tag::Present, v),
@@ -155,7 +260,9 @@ impl Value {
     }
 
     /// A symbol's value with its span.
-    pub fn triple(alloc: Global, start: Loc, v: Value, end: Loc) -> Result<Value, AllocError> {
+    pub fn triple(alloc: Global, start: Loc, v: Value, end: Loc) -> Result<Value, AllocError>
+        ensures { IfOk result (λ w. w ≡ triple start v end) }
+    {
         let mut parts = Vec::new(alloc);
         parts.push(Value::location(start))?;
         parts.push(v)?;
@@ -164,13 +271,17 @@ impl Value {
     }
 
     /// Another value like this one.
-    pub fn copied(&self) -> Result<Value, AllocError> {
+    pub fn copied(&self, alloc: Global) -> Result<Value, AllocError>
+        ensures { IfOk result (λ copy. copy ≡ self.now) }
+    {
         match &self.kind {
-            Kind::Plain(atom) => Ok(Value::plain(atom.copied()?)),
+            Kind::Plain(plain) => Ok(Value {
+                kind: Kind::Plain(plain.copied(alloc)?),
+            }),
             Kind::Made(tag, parts) => {
-                let mut copies = Vec::with_capacity(*parts.allocator(), parts.len())?;
+                let mut copies = Vec::with_capacity(alloc, parts.len())?;
                 for part in parts {
-                    copies.push(part.copied()?)?;
+                    copies.push(part.copied(alloc)?)?;
                 }
                 Ok(Value::made(*tag, copies))
             }
@@ -178,22 +289,28 @@ impl Value {
     }
 
     /// The atom, if the value is one.
-    pub fn as_atom(&self) -> Option<&Atom> {
+    pub fn as_atom(&self) -> Option<&Atom>
+        ensures { MatchOption result (datum self.now ≡ None) (λ a. datum self.now ≡ Some (datum_of a.now)) }
+    {
         match &self.kind {
-            Kind::Plain(atom) => Some(atom),
+            Kind::Plain(plain) => Some(plain.as_atom()),
             Kind::Made(..) => None,
         }
     }
 
-    pub fn into_atom(self) -> Option<Atom> {
+    pub fn into_atom(self) -> Option<Atom>
+        ensures { option_map datum_of result ≡ datum self }
+    {
         match self.kind {
-            Kind::Plain(atom) => Some(atom),
+            Kind::Plain(plain) => Some(plain.into_atom()),
             Kind::Made(..) => None,
         }
     }
 
     /// The tag, if the value has one.
-    pub fn tag(&self) -> Option<Tag> {
+    pub fn tag(&self) -> Option<Tag>
+        ensures { result ≡ tag_of self.now }
+    {
         match &self.kind {
             Kind::Plain(_) => None,
             Kind::Made(tag, _) => Some(*tag),
@@ -201,7 +318,10 @@ impl Value {
     }
 
     /// How many parts the value has.
-    pub fn count(&self) -> usize {
+    #[tactic(auto, using(crate::proofs::Values::list_of_vals))]
+    pub fn count(&self) -> usize
+        ensures { result ≡ length (parts self.now) }
+    {
         match &self.kind {
             Kind::Plain(_) => 0,
             Kind::Made(_, parts) => parts.len(),
@@ -209,22 +329,41 @@ impl Value {
     }
 
     /// A part.
-    pub fn part(&self, i: usize) -> Option<&Value> {
+    #[tactic(auto, using(crate::proofs::Values::list_of_vals))]
+    pub fn part(&self, i: usize) -> Option<&Value>
+        ensures { option_copied result ≡ slice_get (parts self.now) i }
+    {
         match &self.kind {
             Kind::Plain(_) => None,
-            Kind::Made(_, parts) => parts.get(i),
+            Kind::Made(_, parts) => nth(parts, i),
+        }
+    }
+
+    /// The parts, if the value is a list.
+    #[tactic(auto, using(crate::proofs::Values::list_of_vals))]
+    pub fn as_list(&self) -> Option<&[Value]>
+        ensures { MatchOption result (list_parts self.now ≡ None) (λ l. list_parts self.now ≡ Some l.now) }
+    {
+        match &self.kind {
+            Kind::Made(Tag::List, parts) => Some(parts.as_slice()),
+            _ => None,
         }
     }
 
     /// The tag and the parts.
-    pub fn into_parts(self) -> Option<(Tag, Vec<Value>)> {
+    #[tactic(auto, using(crate::proofs::Values::list_of_vals))]
+    pub fn into_parts(self) -> Option<(Tag, Vec<Value>)>
+        ensures { MatchOption result (parts_of self ≡ None) (λ r. parts_of self ≡ Some (r.0, r.1.items)) }
+    {
         match self.kind {
             Kind::Plain(_) => None,
             Kind::Made(tag, parts) => Some((tag, parts)),
         }
     }
 
-    pub fn as_index(&self) -> Option<usize> {
+    pub fn as_index(&self) -> Option<usize>
+        ensures { result ≡ index_of self.now }
+    {
         match self.as_atom() {
             Some(Atom::Index(n)) => Some(*n),
             _ => None,
@@ -232,35 +371,45 @@ impl Value {
     }
 
     /// A number of a state type.
-    pub fn as_state(&self) -> Option<i32> {
+    pub fn as_state(&self) -> Option<i32>
+        ensures { result ≡ state_of self.now }
+    {
         match self.as_atom() {
             Some(Atom::State(_, n)) => Some(*n),
             _ => None,
         }
     }
 
-    pub fn as_bool(&self) -> Option<bool> {
+    pub fn as_bool(&self) -> Option<bool>
+        ensures { result ≡ truth_of self.now }
+    {
         match self.as_atom() {
             Some(Atom::Bool(b)) => Some(*b),
             _ => None,
         }
     }
 
-    pub fn as_cell(&self) -> Option<usize> {
+    pub fn as_cell(&self) -> Option<usize>
+        ensures { result ≡ cell_of self.now }
+    {
         match self.as_atom() {
             Some(Atom::Cell(n)) => Some(*n),
             _ => None,
         }
     }
 
-    pub fn as_location(&self) -> Option<Loc> {
+    pub fn as_location(&self) -> Option<Loc>
+        ensures { result ≡ location_of self.now }
+    {
         match self.as_atom() {
             Some(Atom::Term(Term::Location(l))) => Some(*l),
             _ => None,
         }
     }
 
-    pub fn into_term(self) -> Option<Term> {
+    pub fn into_term(self) -> Option<Term>
+        ensures { option_map value_of result ≡ term_of self }
+    {
         match self.into_atom() {
             Some(Atom::Term(t)) => Some(t),
             _ => None,
@@ -268,18 +417,38 @@ impl Value {
     }
 
     /// The start, the value and the end of a triple of locations and a value.
-    pub fn into_spanned(self) -> Option<(Loc, Value, Loc)> {
-        let (tag, parts) = self.into_parts()?;
-        if tag != Tag::Tuple {
-            return None;
+    pub fn into_spanned(self) -> Option<(Loc, Value, Loc)>
+        ensures { result ≡ spanned_of self }
+    {
+        match self.into_parts() {
+            Some((Tag::Tuple, parts)) => spanned(parts),
+            _ => None,
         }
-        let (start, v, end) = three(parts)?;
-        Some((start.as_location()?, v, end.as_location()?))
+    }
+}
+
+fn nth(parts: &[Value], i: usize) -> Option<&Value>
+    ensures { option_copied result ≡ slice_get parts.now i }
+{
+    parts.get(i)
+}
+
+fn spanned(parts: Vec<Value>) -> Option<(Loc, Value, Loc)>
+    ensures { result ≡ span_in (tag.Tuple, parts.items) }
+{
+    match three(parts) {
+        None => None,
+        Some((start, v, end)) => match (start.as_location(), end.as_location()) {
+            (Some(start), Some(end)) => Some((start, v, end)),
+            _ => None,
+        },
     }
 }
 
 // The three of a list of three.
-fn three(mut parts: Vec<Value>) -> Option<(Value, Value, Value)> {
+fn three(mut parts: Vec<Value>) -> Option<(Value, Value, Value)>
+    ensures { result ≡ three parts.items }
+{
     if parts.len() != 3 {
         return None;
     }
