@@ -8,7 +8,7 @@ use Rattle.lp_core.specs.declared.cell.Cell.{Cell}
 use Rattle.lp_core.specs.declared.world.Done.{Done}
 use Rattle.lp_core.specs.Val.{Val}
 use Rattle.lp_core.specs.Store.{Store, Held, held}
-use Rattle.lp_core.specs.Effect.{Gave, Failed, effect, gave, did, unit}
+use Rattle.lp_core.specs.Effect.{Gave, effect, gave, did, unit}
 use Rattle.lp_core.specs.CellMeaning.{Change, changes}
 use Rattle.lp_core.specs.OpMeaning.{changed, on_cell}
 
