@@ -1,0 +1,3 @@
+pub mod Readings
+pub mod DriverCall
+pub mod DriverCallLaw
