@@ -5,13 +5,16 @@ use Rattle.std.specs.Option.{option_and_then}
 use Rattle.lp_repr.specs.declared.values.Loc.{Loc}
 use Rattle.lp_repr.specs.declared.values.RunItem.{RunItem}
 use Rattle.lp_driver.specs.declared.answers.Simulated.{Simulated}
-use Rattle.lp_driver.specs.Values.{Text, Token, Token_value, Recovered, Spanned, Ending}
+use Rattle.lp_driver.specs.Values.{Text, Token, Token_value, Recovered, Spanned}
+use Rattle.lp_driver.specs.Values as parse
 use Rattle.lp_driver.specs.Questions.{Answers, To_triple, Start_location, Start_state, Token_to_index, Action, Error_action, Eof_action, Goto, Token_to_symbol, Expected, Uses_recovery, Error_symbol, Reduce, Simulate_reduce, Reduced, Said, Says, Halts, Spent, Stuck}
+use Rattle.lp_core.specs.declared.run.Ending.{Ending}
+use Rattle.lp_core.specs.declared.run.Ending.TheVariants as ended
 use Rattle.lp_core.specs.Datum.{Parsed}
 use Rattle.lp_core.specs.Val.{Val, Plain}
 use Rattle.lp_core.specs.Reading.{location_of, state_of, truth_of}
 use Rattle.lp_core.specs.Numbers.{index, typed}
-use Rattle.lp_core.specs.Store.{UserCall, Held, States, Symbols, program_of}
+use Rattle.lp_core.specs.Store.{UserCall, Held, States, Symbols}
 use Rattle.lp_core.specs.OpMeaning.{item_val}
 use Rattle.lp_core.specs.JoinMeaning.{texts_of}
 use Rattle.lp_core.specs.Flow.{State, Flow}
@@ -36,7 +39,13 @@ answer d (flow.Stuck left calls) = Halts Stuck (with_calls d calls left)
 
 -- a call of the function of a number, over these cells
 abbrev pub ask_over : ℕ → List Val → List Held → Runner → Said (Val × List Held) Runner
-ask_over f vs cells d = answer d (run_call (program_of d.setting) f vs (begin cells d.calls d.left))
+ask_over f vs cells d = answer d (run_call d.asked.program f vs (begin cells d.calls d.left))
+
+-- the answer that the end of a call tells, over the cells and the runner that it leaves
+abbrev pub told : Ending → List Held → Runner → Said (Val × List Held) Runner
+told (ended.Value v) cells d = Says (v, cells) d
+told ended.Spent cells d = Halts Spent d
+told ended.Stuck cells d = Halts Stuck d
 
 -- goes on with an answer
 abbrev pub on_said : {A B : Type 0} → Said A Runner → (A → Runner → Said B Runner) → Said B Runner
@@ -68,15 +77,15 @@ token_val token = Plain (Parsed (Token_value token))
 
 -- an item goes through the closure of the token source, where there is one
 abbrev pub to_triple : Option ℕ → RunItem → Runner → Said RunItem Runner
-to_triple None item d = Says (located_item d.setting.located item) d
-to_triple (Some closure) item d = asks item_of closure (item_val d.setting.located item ∷ []) d
+to_triple None item d = Says (located_item d.asked.program.located item) d
+to_triple (Some closure) item d = asks item_of closure (item_val d.asked.program.located item ∷ []) d
 
 -- a copy of the states is lent
 abbrev pub expected : List ℤ → Runner → Said (List Text) Runner
 expected states d =
-    on_said (ask_over d.methods.expected_tokens_from_states (cell_val 0 ∷ []) (States states ∷ []) d) (λ r d'. says (texts_of (program_of d'.setting) r.0) d')
+    on_said (ask_over d.methods.expected_tokens_from_states (cell_val 0 ∷ []) (States states ∷ []) d) (λ r d'. says (texts_of d'.asked.program r.0) d')
 
-abbrev pub reduced : List ℤ × List (Spanned Val) → Option Ending → Reduced Val
+abbrev pub reduced : List ℤ × List (Spanned Val) → Option parse.Ending → Reduced Val
 reduced stacks ending = record { states = stacks.0; symbols = stacks.1; ending = ending }
 
 -- the stacks are lent, and come back
@@ -87,7 +96,7 @@ reduce_on args states symbols d =
 
 abbrev pub reduce : ℤ → Option Loc → List ℤ → List (Spanned Val) → Runner → Said (Reduced Val) Runner
 reduce production start states symbols d =
-    or_stuck (field_values [] d.fields.now) d (λ fields. or_stuck (state_value d production) d (λ p.
+    or_stuck (field_values [] d.asked.fields) d (λ fields. or_stuck (state_value d production) d (λ p.
     reduce_on (reduce_arguments fields p start) states symbols d))
 
 -- a question about a state, and one about a state and a number

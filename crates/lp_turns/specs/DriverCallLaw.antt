@@ -13,7 +13,7 @@ use Rattle.lp_core.specs.Val.{Val, Plain}
 use Rattle.lp_core.specs.Tree.{Tree}
 use Rattle.lp_core.specs.Reading.{location_of, state_of, truth_of}
 use Rattle.lp_core.specs.Numbers.{index}
-use Rattle.lp_core.specs.Store.{UserCall, Program, Held, States, Symbols, program_of}
+use Rattle.lp_core.specs.Store.{UserCall, Program, Held, States, Symbols}
 use Rattle.lp_core.specs.OpMeaning.{item_val}
 use Rattle.lp_core.specs.JoinMeaning.{texts_of}
 use Rattle.lp_core.specs.Flow.{State, Flow, spend_from, leave}
@@ -76,7 +76,7 @@ answer_costs d (flow.Stuck left calls) h = (h, refl)
 
 over_costs : (f : ℕ) (vs : List Val) (cells : List Held) (d : Runner) → Costs d.left (ask_over f vs cells d)
 over_costs f vs cells d =
-    answer_costs d (run_call (program_of d.setting) f vs (begin cells d.calls d.left)) (call_fewer (program_of d.setting) f vs (begin cells d.calls d.left))
+    answer_costs d (run_call d.asked.program f vs (begin cells d.calls d.left)) (call_fewer d.asked.program f vs (begin cells d.calls d.left))
 
 on_costs : {A B : Type 0} (n : ℕ) (said : Said A Runner) (go : A → Runner → Said B Runner) → Costs n said → ((x : A) (d : Runner) → d.left < n → Costs n (go x d)) → Costs n (on_said said go)
 on_costs n (Says x d) go h k = k x d h
@@ -106,14 +106,14 @@ free n (Halts Stuck d) h = h
 triple_is_free : (o : Option ℕ) (item : RunItem) (d : Runner) → Lowers left_of stuck_of true d.left (to_triple o item d)
 triple_is_free None item d = omega arith
 triple_is_free (Some closure) item d =
-    let vs = item_val d.setting.located item ∷ [] in
+    let vs = item_val d.asked.program.located item ∷ [] in
     free d.left (asks item_of closure vs d) (asks_costs item_of closure vs d)
 
 expected_costs : (states : List ℤ) (d : Runner) → Costs d.left (expected states d)
 expected_costs states d =
-    on_costs d.left (ask_over d.methods.expected_tokens_from_states (cell_val 0 ∷ []) (States states ∷ []) d) (λ r d'. says (texts_of (program_of d'.setting) r.0) d')
+    on_costs d.left (ask_over d.methods.expected_tokens_from_states (cell_val 0 ∷ []) (States states ∷ []) d) (λ r d'. says (texts_of d'.asked.program r.0) d')
     (over_costs d.methods.expected_tokens_from_states (cell_val 0 ∷ []) (States states ∷ []) d)
-    (λ r d' h. says_costs d.left (texts_of (program_of d'.setting) r.0) d' h)
+    (λ r d' h. says_costs d.left (texts_of d'.asked.program r.0) d' h)
 
 of_state_costs : (f : ℕ) (s : ℤ) (d : Runner) → Costs d.left (of_state f s d)
 of_state_costs f s d = or_costs d.left (state_value d s) d (λ v. asks state_of f (v ∷ []) d) (omega arith) (λ v. asks_costs state_of f (v ∷ []) d)
@@ -133,7 +133,7 @@ reduce_on_costs args states symbols d =
 
 reduce_costs : (p : ℤ) (start : Option Loc) (states : List ℤ) (symbols : List (Spanned Val)) (d : Runner) → Costs d.left (reduce p start states symbols d)
 reduce_costs p start states symbols d =
-    or_costs d.left (field_values [] d.fields.now) d _ (omega arith) (λ fields. or_costs d.left (state_value d p) d _ (omega arith) (λ v.
+    or_costs d.left (field_values [] d.asked.fields) d _ (omega arith) (λ fields. or_costs d.left (state_value d p) d _ (omega arith) (λ v.
     reduce_on_costs (reduce_arguments fields v start) states symbols d))
 
 pub program_law : IsLawful program_answers left_of stuck_of

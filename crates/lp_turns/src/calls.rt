@@ -32,8 +32,8 @@ impl Calls {
         }
     }
 
-    /// The calls of these events.
-    pub fn of(events: Vec<Event>) -> Calls
+    /// The calls that these events tell of.
+    pub fn made(events: Vec<Event>) -> Calls
         ensures { result ≡ map call_of events.items }
     {
         Calls { events }

@@ -1,73 +1,81 @@
 //! A program as a parser's definition: each question is answered by a call of a method.
 
-ghost use Rattle.std.specs.Prelude.{◌≡◌, [], ◌∷◌, Some, None, IfOk, map, string_bytes};
-ghost use Rattle.std.specs.Option.{option_copied};
+ghost use Rattle.std.specs.Prelude.{◌≡◌, ℕ, IfOk, map, string_bytes};
 ghost use Rattle.lp_driver.specs.Values.{ending_option};
 ghost use Rattle.lp_driver.specs.Questions.{Meets};
 ghost use Rattle.lp_core.specs.Reading as reading;
-ghost use Rattle.lp_core.specs.Reading.{truth_of, location_of};
-ghost use Rattle.lp_core.specs.Store.{call_of, held, program_of};
+ghost use Rattle.lp_core.specs.Store.{held};
 ghost use Rattle.lp_core.specs.JoinMeaning.{texts_of};
 ghost use Rattle.lp_core.specs.FrameView as frame_view;
-ghost use Rattle.lp_core.specs.Endings.{Ends};
-ghost use Rattle.lp_core.specs.Eval.{run_call};
-ghost use Rattle.lp_turns.specs.DriverCall.{begin, says, ask_over, ask, asks, state_value, of_state, of_state_at, reduce_on, program_answers, left_of, stuck_of};
+ghost use Rattle.lp_turns.specs.DriverCall.{begin, told, says, ask_over, ask, asks, state_value, of_state, of_state_at, reduce_on, program_answers, left_of, stuck_of};
 ghost use Rattle.lp_turns.specs.DriverCallLaw.{program_law};
 
+use crate::asked::Asked;
 use crate::calls::Calls;
 use crate::readings::{
-    Triple, both, field_values, index_option, item_of, lent, lent_states, located_item,
-    reduce_arguments, reduction_of, simulated_of, single, stacks_of, strings_of,
+    Triple, both, index_option, item_of, lent, lent_states, located_item, reduce_arguments,
+    reduction_of, simulated_of, single, stacks_of,
 };
 use lp_core::act::item_value;
 use lp_core::cell::{Cell, typed};
 use lp_core::copies::copied_value;
-use lp_core::{Atom, Ending, Setting, Value, World, call};
+use lp_core::{Atom, Ending, Value, World};
 use lp_driver::{Definition, Simulated, Stop};
 use lp_maker::methods::Methods;
-use lp_repr::values::{Event, Loc, Recovery, RunItem, RunParseError, Term, TokenValue};
+use lp_repr::values::{Loc, Recovery, RunItem, RunParseError, Term, TokenValue};
 use std::alloc::{AllocError, Global};
 use std::mem;
 
 /// A program that is asked.
 #[derive(Drop)]
 pub struct Runner<'p> {
-    pub alloc: Global,
-    pub setting: Setting<'p>,
+    pub asked: Asked<'p>,
+    pub methods: Methods,
+    /// The closure of the token source; none where the items are tokens as they stand.
+    pub closure: Option<usize>,
     /// The calls of user code that it has made.
     pub calls: Calls,
     /// How many steps are left.
     pub left: u64,
-    pub methods: Methods,
-    /// The parameters of the grammar that the fields of the machine are, by number.
-    pub fields: &'p [Option<usize>],
-    /// The closure of the token source; none where the items are tokens as they stand.
-    pub closure: Option<usize>,
 }
 
-// A call of a function over these cells, after these calls of user code.
-fn called(
-    alloc: Global,
-    setting: &Setting<'_>,
-    events: Vec<Event>,
-    cells: Vec<Cell>,
-    left: &mut u64,
-    function: usize,
-    args: Vec<Value>,
-) -> Result<(Ending, World), AllocError>
-    ensures { IfOk result (λ r. Ends r.0 (frame_view.state_of r.1 left.new) (run_call (program_of setting.now) function args.items (begin (map held cells.items) (map call_of events.items) left.old))) }
+// Where a question is asked: no slots, these cells, and the calls of user code so far.
+fn standing(alloc: Global, calls: Calls, cells: Vec<Cell>) -> World
+    ensures { (left : ℕ) → frame_view.state_of result left ≡ begin (map held cells.items) calls left }
 {
-    let mut world = World {
-        env: Vec::new(alloc),
+    let env = Vec::new(alloc);
+    let events = calls.into_events();
+    World {
+        env,
         cells,
         events,
         taken: 0,
-    };
-    let ending = call(alloc, setting, &mut world, left, function, args)?;
-    Ok((ending, world))
+    }
 }
 
 impl<'p> Runner<'p> {
+    fn alloc(&self) -> Global {
+        self.asked.alloc()
+    }
+
+    // How a call of a function over these cells ends, and what it leaves in them.
+    fn run_over(
+        &mut self,
+        function: usize,
+        args: Vec<Value>,
+        cells: Vec<Cell>,
+    ) -> Result<(Ending, Vec<Cell>), AllocError>
+        ensures { IfOk result (λ r. ask_over function args.items (map held cells.items) self.old ≡ told r.0 (map held r.1.items) self.new) }
+    {
+        let none = Calls::none(self.alloc());
+        let calls = mem::replace(&mut self.calls, none);
+        let mut world = standing(self.alloc(), calls, cells);
+        let ending = self.asked.call(&mut world, &mut self.left, function, args)?;
+        let World { cells, events, .. } = world;
+        self.calls = Calls::made(events);
+        Ok((ending, cells))
+    }
+
     // What a function answers over these cells, and what it leaves in them.
     fn ask_over(
         &mut self,
@@ -77,18 +85,7 @@ impl<'p> Runner<'p> {
     ) -> Result<(Value, Vec<Cell>), Stop>
         ensures { Meets result (λ r. (r.0, map held r.1.items)) self.new (ask_over function args.items (map held cells.items) self.old) }
     {
-        let calls = mem::replace(&mut self.calls, Calls::none(self.alloc));
-        let (ending, world) = called(
-            self.alloc,
-            &self.setting,
-            calls.into_events(),
-            cells,
-            &mut self.left,
-            function,
-            args,
-        )?;
-        let World { cells, events, .. } = world;
-        self.calls = Calls::of(events);
+        let (ending, cells) = self.run_over(function, args, cells)?;
         match ending {
             Ending::Value(v) => Ok((v, cells)),
             Ending::Spent => Err(Stop::Spent),
@@ -100,7 +97,7 @@ impl<'p> Runner<'p> {
     fn ask(&mut self, function: usize, args: Vec<Value>) -> Result<Value, Stop>
         ensures { Meets result (λ v. v) self.new (ask function args.items self.old) }
     {
-        let none = Vec::new(self.alloc);
+        let none = Vec::new(self.alloc());
         let (v, _) = self.ask_over(function, args, none)?;
         Ok(v)
     }
@@ -131,7 +128,7 @@ impl<'p> Runner<'p> {
         match self.state_value(state) {
             None => Err(Stop::Stuck),
             Some(v) => {
-                let args = single(self.alloc, v)?;
+                let args = single(self.alloc(), v)?;
                 self.ask_state(function, args)
             }
         }
@@ -143,7 +140,7 @@ impl<'p> Runner<'p> {
         match self.state_value(state) {
             None => Err(Stop::Stuck),
             Some(v) => {
-                let args = both(self.alloc, v, Value::index(i))?;
+                let args = both(self.alloc(), v, Value::index(i))?;
                 self.ask_state(function, args)
             }
         }
@@ -151,11 +148,11 @@ impl<'p> Runner<'p> {
 
     // The texts that a list of texts names.
     fn texts(&self, v: &Value) -> Result<Vec<String>, Stop>
-        ensures { Meets result (λ l. map string_bytes l.items) self.now (says (texts_of (program_of self.now.setting) v.now) self.now) }
+        ensures { Meets result (λ l. map string_bytes l.items) self.now (says (texts_of self.now.asked.program v.now) self.now) }
     {
-        match lp_core::join::texts_of(self.alloc, &self.setting, v)? {
+        match self.asked.texts(v)? {
             None => Err(Stop::Stuck),
-            Some(texts) => Ok(strings_of(self.alloc, texts)?),
+            Some(texts) => Ok(texts),
         }
     }
 
@@ -168,9 +165,9 @@ impl<'p> Runner<'p> {
     ) -> Result<Option<Result<Term, RunParseError>>, Stop>
         ensures { Meets result (λ r. record { states = states.new.items; symbols = symbols.new.items; ending = ending_option r }) self.new (reduce_on args.items states.old.items symbols.old.items self.old) }
     {
-        let lent_states = mem::replace(states, Vec::new(self.alloc));
-        let lent_symbols = mem::replace(symbols, Vec::new(self.alloc));
-        let cells = lent(self.alloc, lent_states, lent_symbols)?;
+        let lent_states = mem::replace(states, Vec::new(self.alloc()));
+        let lent_symbols = mem::replace(symbols, Vec::new(self.alloc()));
+        let cells = lent(self.alloc(), lent_states, lent_symbols)?;
         let (v, cells) = self.ask_over(self.methods.reduce, args, cells)?;
         match stacks_of(cells) {
             None => Err(Stop::Stuck),
@@ -199,10 +196,10 @@ impl<'p> Definition for Runner<'p> {
 
     fn to_triple(&mut self, item: &RunItem) -> Result<RunItem, Stop> {
         match self.closure {
-            None => Ok(located_item(self.alloc, self.setting.located, item)?),
+            None => Ok(located_item(self.alloc(), self.asked.is_located(), item)?),
             Some(closure) => {
-                let v = item_value(self.alloc, item, self.setting.located)?;
-                let args = single(self.alloc, v)?;
+                let v = item_value(self.alloc(), item, self.asked.is_located())?;
+                let args = single(self.alloc(), v)?;
                 let answer = self.ask(closure, args)?;
                 match item_of(answer) {
                     None => Err(Stop::Stuck),
@@ -213,7 +210,8 @@ impl<'p> Definition for Runner<'p> {
     }
 
     fn start_location(&mut self) -> Result<Loc, Stop> {
-        let v = self.ask(self.methods.start_location, Vec::new(self.alloc))?;
+        let none = Vec::new(self.alloc());
+        let v = self.ask(self.methods.start_location, none)?;
         match v.as_location() {
             None => Err(Stop::Stuck),
             Some(location) => Ok(location),
@@ -221,12 +219,13 @@ impl<'p> Definition for Runner<'p> {
     }
 
     fn start_state(&mut self) -> Result<i32, Stop> {
-        self.ask_state(self.methods.start_state, Vec::new(self.alloc))
+        let none = Vec::new(self.alloc());
+        self.ask_state(self.methods.start_state, none)
     }
 
     fn token_to_index(&mut self, token: &TokenValue) -> Result<Option<usize>, Stop> {
-        let copy = copied_value(self.alloc, token)?;
-        let args = single(self.alloc, Value::term(Term::Token(copy)))?;
+        let copy = copied_value(self.alloc(), token)?;
+        let args = single(self.alloc(), Value::term(Term::Token(copy)))?;
         let v = self.ask(self.methods.token_to_index, args)?;
         match index_option(v) {
             None => Err(Stop::Stuck),
@@ -252,19 +251,20 @@ impl<'p> Definition for Runner<'p> {
 
     fn token_to_symbol(&mut self, index: usize, token: TokenValue) -> Result<Value, Stop> {
         let value = Value::term(Term::Token(token));
-        let args = both(self.alloc, Value::index(index), value)?;
+        let args = both(self.alloc(), Value::index(index), value)?;
         self.ask(self.methods.token_to_symbol, args)
     }
 
     fn expected_tokens_from_states(&mut self, states: &[i32]) -> Result<Vec<String>, Stop> {
-        let cells = lent_states(self.alloc, states)?;
-        let args = single(self.alloc, Value::plain(Atom::Cell(0)))?;
+        let cells = lent_states(self.alloc(), states)?;
+        let args = single(self.alloc(), Value::plain(Atom::Cell(0)))?;
         let (v, _) = self.ask_over(self.methods.expected_tokens_from_states, args, cells)?;
         self.texts(&v)
     }
 
     fn uses_error_recovery(&mut self) -> Result<bool, Stop> {
-        let v = self.ask(self.methods.uses_error_recovery, Vec::new(self.alloc))?;
+        let none = Vec::new(self.alloc());
+        let v = self.ask(self.methods.uses_error_recovery, none)?;
         match v.as_bool() {
             None => Err(Stop::Stuck),
             Some(mends) => Ok(mends),
@@ -272,8 +272,8 @@ impl<'p> Definition for Runner<'p> {
     }
 
     fn error_recovery_symbol(&mut self, recovery: Recovery) -> Result<Value, Stop> {
-        let term = Term::Recovered(Box::new(self.alloc, recovery)?);
-        let args = single(self.alloc, Value::term(term))?;
+        let term = Term::Recovered(Box::new(self.alloc(), recovery)?);
+        let args = single(self.alloc(), Value::term(term))?;
         self.ask(self.methods.error_recovery_symbol, args)
     }
 
@@ -284,12 +284,12 @@ impl<'p> Definition for Runner<'p> {
         states: &mut Vec<i32>,
         symbols: &mut Vec<Triple>,
     ) -> Result<Option<Result<Term, RunParseError>>, Stop> {
-        match field_values(self.alloc, self.fields)? {
+        match self.asked.field_values()? {
             None => Err(Stop::Stuck),
             Some(fields) => match self.state_value(action) {
                 None => Err(Stop::Stuck),
                 Some(production) => {
-                    let args = reduce_arguments(self.alloc, fields, production, start.copied())?;
+                    let args = reduce_arguments(self.alloc(), fields, production, start.copied())?;
                     self.reduce_on(args, states, symbols)
                 }
             },
@@ -300,7 +300,7 @@ impl<'p> Definition for Runner<'p> {
         match self.state_value(action) {
             None => Err(Stop::Stuck),
             Some(production) => {
-                let args = single(self.alloc, production)?;
+                let args = single(self.alloc(), production)?;
                 let v = self.ask(self.methods.simulate_reduce, args)?;
                 match simulated_of(v) {
                     None => Err(Stop::Stuck),
