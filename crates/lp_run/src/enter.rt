@@ -1,5 +1,10 @@
 //! A program is entered once: its forms become functions of the core language.
 
+ghost use Rattle.std.specs.Prelude.{◌≡◌, IfOk};
+ghost use Rattle.std.specs.Option.{option_map};
+ghost use Rattle.lp_run.specs.Module.{module_of};
+ghost use Rattle.lp_run.specs.Entered.{entered};
+
 use lp_ascent_bodies::ascent::{start, state_fn};
 use lp_ascent_bodies::ascent_reduce::{ascent_accepts, ascent_expected, ascent_simulate};
 use lp_bodies::action::action_fn;
@@ -51,7 +56,9 @@ pub fn enter(
     alloc: Global,
     program: &Program<'_>,
     start: &str,
-) -> Result<Option<Entered>, AllocError> {
+) -> Result<Option<Entered>, AllocError>
+    ensures { IfOk result (λ o. option_map module_of o ≡ entered program.now start.now) }
+{
     match module_of(program, start) {
         None => Ok(None),
         Some(items) => Ok(Some(enter_module(alloc, program, items)?)),

@@ -39,8 +39,8 @@ pub struct Runner<'p> {
     pub left: u64,
 }
 
-// Where a question is asked: no slots, these cells, and the calls of user code so far.
-fn standing(alloc: Global, calls: Calls, cells: Vec<Cell>) -> World
+/// Where a call begins: no slots, these cells, and the calls of user code so far.
+pub fn standing(alloc: Global, calls: Calls, cells: Vec<Cell>) -> World
     ensures { (left : ℕ) → frame_view.state_of result left ≡ begin (map held cells.items) calls left }
 {
     let env = Vec::new(alloc);
@@ -85,7 +85,8 @@ impl<'p> Runner<'p> {
     ) -> Result<(Value, Vec<Cell>), Stop>
         ensures { Meets result (λ r. (r.0, map held r.1.items)) self.new (ask_over function args.items (map held cells.items) self.old) }
     {
-        let (ending, cells) = self.run_over(function, args, cells)?;
+        let done = self.run_over(function, args, cells)?;
+        let (ending, cells) = done;
         match ending {
             Ending::Value(v) => Ok((v, cells)),
             Ending::Spent => Err(Stop::Spent),
