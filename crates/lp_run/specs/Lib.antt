@@ -1,3 +1,4 @@
 pub mod Module
 pub mod Entered
 pub mod ProgramRun
+pub mod RunLaw

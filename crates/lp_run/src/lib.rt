@@ -2,6 +2,7 @@
 #![tactic(auto)]
 
 mod enter;
+pub mod laws;
 mod run;
 
 pub use run::{Run, run_program};

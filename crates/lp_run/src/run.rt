@@ -62,12 +62,12 @@ pub fn run_program(
 }
 
 // Runs a module.
-fn run_module(
+fn run_module<'p>(
     alloc: Global,
-    code: &Entered,
-    items: &[RunItem],
-    params: &[Text],
-    failing: &[u64],
+    code: &'p Entered,
+    items: &'p [RunItem],
+    params: &'p [Text],
+    failing: &'p [u64],
     budget: u64,
 ) -> Result<Finished, AllocError>
     ensures { IfOk result (λ f. finished f ≡ module_run (module_of code.now) items.now params.now failing.now budget) }
@@ -173,11 +173,11 @@ fn spend(left: u64) -> Option<u64>
 }
 
 // The call of `parse` is a step.
-fn run_by_driver(
+fn run_by_driver<'p>(
     alloc: Global,
-    setting: Setting<'_>,
+    setting: Setting<'p>,
     methods: Methods,
-    fields: &[Option<usize>],
+    fields: &'p [Option<usize>],
     closure: Option<usize>,
     budget: u64,
 ) -> Result<Finished, AllocError>

@@ -1,6 +1,6 @@
 -- What the end of a call tells is what the question is answered.
-use Rattle.std.proofs.Common.{◌≡◌, ℕ, List, [], refl, sym, ap, ◌∙◌}
-use Rattle.lp_driver.specs.Questions.{Said, Says, Halts, Spent, Stuck}
+use Rattle.std.proofs.Common.{◌≡◌, ℕ, List, [], sym, ap, ◌∙◌}
+use Rattle.lp_driver.specs.Questions.{Halts, Spent}
 use Rattle.lp_core.specs.declared.run.Ending.{Ending}
 use Rattle.lp_core.specs.declared.run.Ending.TheVariants as ended
 use Rattle.lp_core.specs.Val.{Val}

@@ -1,6 +1,6 @@
 -- The answers of a program keep the law of a definition: a call is a step, and what comes after it
 -- raises no number of steps.
-use Rattle.std.proofs.Common.{◌≡◌, ℕ, zero, suc, ◌≤◌, ◌<◌, ℤ, Bool, true, false, List, [], ◌∷◌, Option, Some, None, refl, length, arith}
+use Rattle.std.proofs.Common.{ℕ, zero, suc, ◌≤◌, ◌<◌, ℤ, Bool, true, false, List, [], ◌∷◌, Option, Some, None, refl, length, arith}
 use Rattle.std.specs.Prelude.{slice_get, ◌==◌, if◌then◌else◌}
 use Rattle.lp_repr.specs.declared.values.RunItem.{RunItem}
 use Rattle.lp_repr.specs.declared.values.Loc.{Loc}
@@ -19,10 +19,10 @@ use Rattle.lp_core.specs.JoinMeaning.{texts_of}
 use Rattle.lp_core.specs.Flow.{State, Flow, spend_from, leave}
 use Rattle.lp_core.specs.Flow as flow
 use Rattle.lp_core.specs.Eval.{call_within, enter, enter_with, entered, run, run_call}
-use Rattle.lp_core.proofs.Falls.{Within, After, Falls, same_prefix, eval_falls, call_falls}
+use Rattle.lp_core.proofs.Falls.{Within, After, same_prefix, eval_falls, call_falls}
 use Rattle.lp_turns.specs.declared.runner.Runner.{Runner}
 use Rattle.lp_turns.specs.Readings.{index_option, item_of, reduction_of, simulated_of, stacks_of, field_values, reduce_arguments, cell_val}
-use Rattle.lp_turns.specs.DriverCall.{begin, answer, ask_over, on_said, or_stuck, says, ask, asks, state_value, token_val, to_triple, expected, reduced, reduce_on, reduce, of_state, of_state_at, simulate, program_answers, left_of, stuck_of}
+use Rattle.lp_turns.specs.DriverCall.{begin, answer, ask_over, on_said, or_stuck, says, ask, asks, state_value, token_val, to_triple, expected, reduce_on, reduce, of_state, of_state_at, simulate, program_answers, left_of, stuck_of}
 
 module _ (k : ℕ) (c : List UserCall) where
   leave_falls : (env : List Val) (n : ℕ) (fl : Flow) → After k c fl → After k c (leave env n fl)

@@ -1,6 +1,5 @@
 use Rattle.std.proofs.Common.{◌≡◌, List, [], map, ap, ◌∙◌}
-use Rattle.lp_core.specs.Store.{UserCall, Held, program_of, held}
-use Rattle.lp_core.specs.Flow.{State}
+use Rattle.lp_core.specs.Store.{UserCall, program_of, held}
 use Rattle.lp_core.specs.FrameView.{state_of}
 use Rattle.lp_core.specs.declared.cell.Cell.{Cell}
 use Rattle.lp_turns.specs.DriverCall.{begin}

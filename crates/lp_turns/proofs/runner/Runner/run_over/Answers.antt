@@ -1,4 +1,4 @@
-use Rattle.std.proofs.Common.{◌≡◌, List, sym, ap, ◌∙◌}
+use Rattle.std.proofs.Common.{◌≡◌, List, ap, ◌∙◌}
 use Rattle.std.specs.Prelude.{map}
 use Rattle.lp_core.specs.Store.{UserCall, held}
 use Rattle.lp_core.specs.FrameView.{state_of}
