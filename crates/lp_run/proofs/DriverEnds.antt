@@ -1,5 +1,7 @@
 -- Each turn that goes on lowers the steps left, so no run outlasts them.
-use Rattle.std.proofs.Common.{ℕ, zero, suc, ◌<◌, false, List, arith}
+use Rattle.std.proofs.Common.{ℕ, zero, suc, ◌<◌, ◌≤◌, false, List, arith}
+use Rattle.lp_repr.specs.declared.values.Loc.{Loc}
+use Rattle.lp_repr.specs.declared.values.RunItem.{RunItem}
 use Rattle.lp_driver.specs.Questions.{Said, Says, Halts, Lowers, Start_location, Start_state}
 use Rattle.lp_driver.specs.DriverState.{Driver, Next, Goes_on, Ends, Halted, on_answer}
 use Rattle.lp_driver.specs.Turns.{turn, turns, goes_on, first}
@@ -26,8 +28,15 @@ answer_ends : {A : Type 0} (n : ℕ) (said : Said A Runner) (go : A → Runner �
 answer_ends n (Says x d) go h k = k x d h
 answer_ends n (Halts why d) go h k = tt
 
+abbrev after_start : List RunItem → ℕ → Loc → Runner → Next Val Runner
+after_start items n a d = on_answer (program_answers Start_state d) (λ s d'. turns program_answers n (first program_answers items a s) d')
+
+start_ends : (items : List RunItem) (n : ℕ) (a : Loc) (d : Runner) → d.left ≤ n → IsOver (after_start items n a d)
+start_ends items n a d le =
+    answer_ends d.left (program_answers Start_state d) (λ s d'. turns program_answers n (first program_answers items a s) d') (program_law Start_state d)
+    (λ s d' h. turns_end n (first program_answers items a s) d' (omega arith))
+
 pub driver_ends : DriverEnds
 driver_ends items d =
-    answer_ends d.left (program_answers Start_location d) _ (program_law Start_location d) (λ a d' h.
-    answer_ends d'.left (program_answers Start_state d') _ (program_law Start_state d') (λ s d'' h'.
-    turns_end (suc d.left) (first program_answers items a s) d'' (omega arith)))
+    answer_ends d.left (program_answers Start_location d) (after_start items (suc d.left)) (program_law Start_location d)
+    (λ a d' h. start_ends items (suc d.left) a d' (omega arith))

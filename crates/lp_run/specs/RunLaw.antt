@@ -1,5 +1,5 @@
 -- A driver over a program ends.
-use Rattle.std.specs.Prelude.{ℕ, suc, List}
+use Rattle.std.specs.Prelude.{suc, List}
 use Rattle.lp_repr.specs.declared.values.RunItem.{RunItem}
 use Rattle.lp_driver.specs.DriverState.{Next, Goes_on, Ends, Halted}
 use Rattle.lp_driver.specs.Turns.{run}

@@ -5,7 +5,7 @@ use Rattle.std.specs.Prelude.{slice_get, ◌==◌, if◌then◌else◌}
 use Rattle.lp_repr.specs.declared.values.RunItem.{RunItem}
 use Rattle.lp_repr.specs.declared.values.Loc.{Loc}
 use Rattle.lp_driver.specs.Values.{Spanned}
-use Rattle.lp_driver.specs.Questions.{IsLawful, Lowers, To_triple, Start_location, Start_state, Token_to_index, Action, Error_action, Eof_action, Goto, Token_to_symbol, Expected, Uses_recovery, Error_symbol, Reduce, Simulate_reduce, Said, Says, Halts, Spent, Stuck}
+use Rattle.lp_driver.specs.Questions.{IsLawful, Lowers, To_triple, Start_location, Start_state, Token_to_index, Action, Error_action, Eof_action, Goto, Token_to_symbol, Expected, Uses_recovery, Error_symbol, Reduce, Simulate_reduce, Reduced, Said, Says, Halts, Spent, Stuck}
 use Rattle.lp_driver.specs.Values.{Recovered}
 use Rattle.lp_core.specs.declared.expr.Function.{Function}
 use Rattle.lp_core.specs.Datum.{Parsed}
@@ -22,7 +22,7 @@ use Rattle.lp_core.specs.Eval.{call_within, enter, enter_with, entered, run, run
 use Rattle.lp_core.proofs.Falls.{Within, After, same_prefix, eval_falls, call_falls}
 use Rattle.lp_turns.specs.declared.runner.Runner.{Runner}
 use Rattle.lp_turns.specs.Readings.{index_option, item_of, reduction_of, simulated_of, stacks_of, field_values, reduce_arguments, cell_val}
-use Rattle.lp_turns.specs.DriverCall.{begin, answer, ask_over, on_said, or_stuck, says, ask, asks, state_value, token_val, to_triple, expected, reduce_on, reduce, of_state, of_state_at, simulate, program_answers, left_of, stuck_of}
+use Rattle.lp_turns.specs.DriverCall.{begin, answer, ask_over, on_said, or_stuck, says, ask, asks, state_value, token_val, to_triple, expected, reduced, reduce_on, reduce, of_state, of_state_at, simulate, program_answers, left_of, stuck_of}
 
 module _ (k : ℕ) (c : List UserCall) where
   leave_falls : (env : List Val) (n : ℕ) (fl : Flow) → After k c fl → After k c (leave env n fl)
@@ -125,16 +125,24 @@ simulate_costs : (p : ℤ) (d : Runner) → Costs d.left (simulate p d)
 simulate_costs p d =
     or_costs d.left (state_value d p) d (λ v. asks simulated_of d.methods.simulate_reduce (v ∷ []) d) (omega arith) (λ v. asks_costs simulated_of d.methods.simulate_reduce (v ∷ []) d)
 
+abbrev reduction : Val × List Held → Runner → Said (Reduced Val) Runner
+reduction r d = or_stuck (stacks_of r.1) d (λ stacks. or_stuck (reduction_of r.0) d (λ ending. Says (reduced stacks ending) d))
+
+reduction_costs : (n : ℕ) (r : Val × List Held) (d : Runner) → d.left < n → Costs n (reduction r d)
+reduction_costs n r d h =
+    or_costs n (stacks_of r.1) d (λ stacks. or_stuck (reduction_of r.0) d (λ ending. Says (reduced stacks ending) d)) (omega arith)
+    (λ stacks. or_costs n (reduction_of r.0) d (λ ending. Says (reduced stacks ending) d) (omega arith) (λ ending. h))
+
 reduce_on_costs : (args : List Val) (states : List ℤ) (symbols : List (Spanned Val)) (d : Runner) → Costs d.left (reduce_on args states symbols d)
 reduce_on_costs args states symbols d =
-    on_costs d.left (ask_over d.methods.reduce args (States states ∷ Symbols symbols ∷ []) d) _
-    (over_costs d.methods.reduce args (States states ∷ Symbols symbols ∷ []) d)
-    (λ r d' h. or_costs d.left (stacks_of r.1) d' _ (omega arith) (λ stacks. or_costs d.left (reduction_of r.0) d' _ (omega arith) (λ ending. h)))
+    let cells = States states ∷ Symbols symbols ∷ [] in
+    on_costs d.left (ask_over d.methods.reduce args cells d) reduction (over_costs d.methods.reduce args cells d) (reduction_costs d.left)
 
 reduce_costs : (p : ℤ) (start : Option Loc) (states : List ℤ) (symbols : List (Spanned Val)) (d : Runner) → Costs d.left (reduce p start states symbols d)
 reduce_costs p start states symbols d =
-    or_costs d.left (field_values [] d.asked.fields) d _ (omega arith) (λ fields. or_costs d.left (state_value d p) d _ (omega arith) (λ v.
-    reduce_on_costs (reduce_arguments fields v start) states symbols d))
+    or_costs d.left (field_values [] d.asked.fields) d (λ fields. or_stuck (state_value d p) d (λ v. reduce_on (reduce_arguments fields v start) states symbols d)) (omega arith)
+    (λ fields. or_costs d.left (state_value d p) d (λ v. reduce_on (reduce_arguments fields v start) states symbols d) (omega arith)
+    (λ v. reduce_on_costs (reduce_arguments fields v start) states symbols d))
 
 pub program_law : IsLawful program_answers left_of stuck_of
 program_law (To_triple item) d = triple_is_free d.closure item d
