@@ -134,8 +134,7 @@ fn run_by_call(
 ) -> Result<Finished, AllocError>
     ensures { IfOk result (λ f. finished f ≡ by_call (program_of setting.now) function params budget) }
 {
-    let parsed = parse_by_call(alloc, setting, function, params, budget)?;
-    let (ending, calls, left) = parsed;
+    let (ending, calls, left) = parse_by_call(alloc, setting, function, params, budget)?;
     Ok(told(ending, calls, left, budget))
 }
 

@@ -135,7 +135,7 @@ reduction_costs n r d h =
 
 reduce_on_costs : (args : List Val) (states : List ℤ) (symbols : List (Spanned Val)) (d : Runner) → Costs d.left (reduce_on args states symbols d)
 reduce_on_costs args states symbols d =
-    let cells = States states ∷ Symbols symbols ∷ [] in
+    let cells : List Held = States states ∷ Symbols symbols ∷ [] in
     on_costs d.left (ask_over d.methods.reduce args cells d) reduction (over_costs d.methods.reduce args cells d) (reduction_costs d.left)
 
 reduce_costs : (p : ℤ) (start : Option Loc) (states : List ℤ) (symbols : List (Spanned Val)) (d : Runner) → Costs d.left (reduce p start states symbols d)

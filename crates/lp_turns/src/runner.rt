@@ -85,8 +85,7 @@ impl<'p> Runner<'p> {
     ) -> Result<(Value, Vec<Cell>), Stop>
         ensures { Meets result (λ r. (r.0, map held r.1.items)) self.new (ask_over function args.items (map held cells.items) self.old) }
     {
-        let done = self.run_over(function, args, cells)?;
-        let (ending, cells) = done;
+        let (ending, cells) = self.run_over(function, args, cells)?;
         match ending {
             Ending::Value(v) => Ok((v, cells)),
             Ending::Spent => Err(Stop::Spent),
