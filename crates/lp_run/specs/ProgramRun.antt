@@ -81,10 +81,13 @@ abbrev pub with_fields : Option (List Val) → Finish → Finish
 with_fields None finish = Stuck 1
 with_fields (Some vs) finish = finish
 
+abbrev pub after_step : Program → Methods → List (Option ℕ) → Option ℕ → ℕ → ℕ → Finish
+after_step p methods fields closure budget left = with_fields (field_values [] fields) (driven p.items budget (first_asked p methods fields closure left))
+
 -- the call of `parse` is a step
 abbrev pub by_driver : Program → Methods → List (Option ℕ) → Option ℕ → ℕ → ℕ → Finish
 by_driver p methods fields closure budget zero = Spent [] budget
-by_driver p methods fields closure budget (suc left) = with_fields (field_values [] fields) (driven p.items budget (first_asked p methods fields closure left))
+by_driver p methods fields closure budget (suc left) = after_step p methods fields closure budget left
 
 abbrev pub parsed : Parse → ℕ → Option ℕ → Program → ℕ → Finish
 parsed (By_driver methods fields) params closure p budget = by_driver p methods fields closure budget budget

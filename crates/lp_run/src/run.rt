@@ -4,7 +4,7 @@ ghost use Rattle.std.specs.Prelude.{◌≡◌, suc, Some, IfOk, MatchOption};
 ghost use Rattle.lp_core.specs.Store.{program_of};
 ghost use Rattle.lp_run.specs.Module.{module_of};
 ghost use Rattle.lp_run.specs.Entered.{entered};
-ghost use Rattle.lp_run.specs.ProgramRun.{parameters, by_call, driven, by_driver, module_run, program_run, outcome_finish, run_finish, finished, Finishes, told_finish, drive_finish};
+ghost use Rattle.lp_run.specs.ProgramRun.{parameters, by_call, driven, after_step, by_driver, module_run, program_run, outcome_finish, run_finish, finished, Finishes, told_finish, drive_finish};
 
 use crate::enter::{Entered, Parser, enter};
 use lp_core::{Atom, Ending, Setting, Value, World, call};
@@ -182,25 +182,40 @@ fn run_by_driver<'p>(
 ) -> Result<Finished, AllocError>
     ensures { IfOk result (λ f. finished f ≡ by_driver (program_of setting.entry) methods fields.now closure budget budget) }
 {
-    let calls = Calls::none(alloc);
     match spend(budget) {
-        None => Ok(Finished::Ran(ran(Outcome::Spent, calls, budget))),
+        None => Ok(Finished::Ran(ran(Outcome::Spent, Calls::none(alloc), budget))),
         Some(left) => {
-            let items = setting.items;
-            let asked = Asked::new(alloc, setting, fields);
-            match asked.field_values()? {
-                None => Ok(Finished::Stuck(1)),
-                Some(_) => {
-                    let runner = Runner {
-                        asked,
-                        methods,
-                        closure,
-                        calls,
-                        left,
-                    };
-                    Ok(run_driver(alloc, runner, items, budget)?)
-                }
-            }
+            Ok(run_after_step(alloc, setting, methods, fields, closure, budget, left)?)
+        }
+    }
+}
+
+// What comes after that step: each field is a parameter of the grammar.
+fn run_after_step<'p>(
+    alloc: Global,
+    setting: Setting<'p>,
+    methods: Methods,
+    fields: &'p [Option<usize>],
+    closure: Option<usize>,
+    budget: u64,
+    left: u64,
+) -> Result<Finished, AllocError>
+    ensures { IfOk result (λ f. finished f ≡ after_step (program_of setting.entry) methods fields.now closure budget left) }
+{
+    let items = setting.items;
+    let asked = Asked::new(alloc, setting, fields);
+    match asked.field_values()? {
+        None => Ok(Finished::Stuck(1)),
+        Some(_) => {
+            let calls = Calls::none(alloc);
+            let runner = Runner {
+                asked,
+                methods,
+                closure,
+                calls,
+                left,
+            };
+            Ok(run_driver(alloc, runner, items, budget)?)
         }
     }
 }

@@ -1,17 +1,21 @@
 -- What the end of a call tells is what the question is answered.
-use Rattle.std.proofs.Common.{◌≡◌, ℕ, List, [], sym, ap, ◌∙◌}
+use Rattle.std.proofs.Common.{◌≡◌, ℕ, List, [], sym, ap, ◌∙◌, subst}
 use Rattle.lp_driver.specs.Questions.{Halts, Spent}
 use Rattle.lp_core.specs.declared.run.Ending.{Ending}
 use Rattle.lp_core.specs.declared.run.Ending.TheVariants as ended
 use Rattle.lp_core.specs.Val.{Val}
-use Rattle.lp_core.specs.Store.{UserCall, Held}
+use Rattle.lp_core.specs.Store.{UserCall, Held, Program}
 use Rattle.lp_core.specs.Flow.{State, Flow}
 use Rattle.lp_core.specs.Endings.{Ends}
 use Rattle.lp_core.specs.Eval.{run_call}
 use Rattle.lp_turns.specs.declared.runner.Runner.{Runner}
 use Rattle.lp_turns.specs.DriverCall.{begin, with_calls, answer, ask_over, told}
 
-abbrev stood : List Held → ℕ → List Val → List UserCall → State
+-- the same call in the same program
+pub ends_at : (p q : Program) (f : ℕ) (vs : List Val) (before after : State) (e : Ending) → p ≡ q → Ends e after (run_call p f vs before) → Ends e after (run_call q f vs before)
+ends_at p q f vs before after e same ends = subst (λ (r : Program). Ends e after (run_call r f vs before)) same ends
+
+abbrev pub stood : List Held → ℕ → List Val → List UserCall → State
 stood cells left env calls = record { store = record { env = env; cells = cells; taken = 0 }; calls = calls; left = left }
 
 -- a world with no slots and these calls

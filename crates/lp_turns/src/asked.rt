@@ -64,7 +64,10 @@ impl<'p> Asked<'p> {
     pub fn field_values(&self) -> Result<Option<Vec<Value>>, AllocError>
         ensures { IfOk result (λ o. MatchOption o (field_values [] self.now.fields ≡ None) (λ l. field_values [] self.now.fields ≡ Some l.items)) }
     {
-        field_values(self.alloc, self.fields)
+        match field_values(self.alloc, self.fields)? {
+            None => Ok(None),
+            Some(values) => Ok(Some(values)),
+        }
     }
 
     /// The texts that a list of texts names.
@@ -87,6 +90,7 @@ impl<'p> Asked<'p> {
     ) -> Result<Ending, AllocError>
         ensures { IfOk result (λ ending. Ends ending (state_of world.new left.new) (run_call self.now.program function args.items (state_of world.old left.old))) }
     {
-        call(self.alloc, &self.setting, world, left, function, args)
+        let ending = call(self.alloc, &self.setting, world, left, function, args)?;
+        Ok(ending)
     }
 }

@@ -1,13 +1,12 @@
 //! What the values that a program's methods give are read as.
 
 ghost use Rattle.std.specs.Prelude.{◌≡◌, [], ◌∷◌, Some, None, IfOk, MatchOption, map, string_bytes};
-ghost use Rattle.std.specs.Option.{option_map, option_and_then};
+ghost use Rattle.std.specs.Option.{option_map};
 ghost use Rattle.lp_driver.specs.Values.{ending_of, ending_option};
-ghost use Rattle.lp_core.specs.Val.{Val};
 ghost use Rattle.lp_core.specs.Reading.{one, two, location};
 ghost use Rattle.lp_core.specs.Store.{held, States, Symbols};
 ghost use Rattle.lp_core.specs.OpMeaning.{place};
-ghost use Rattle.lp_turns.specs.Readings.{index_option, failure_of, fault_in, fault_of, located_item, item_of, success_in, error_in, result_of, some_result, reduction_of, would_reduce, reduce_with, simulated_of, pair_of, stacks_of, with_value, param_val, field_values, reduce_arguments};
+ghost use Rattle.lp_turns.specs.Readings.{index_option, failure_of, fault_in, fault_of, located_item, item_of, success_in, error_in, result_of, some_result, reduction_of, would_reduce, reduce_with, simulated_of, pair_of, stacks_of, with_value, field_values, reduce_arguments};
 
 use lp_core::act::spanned_token;
 use lp_core::cell::Cell;
@@ -197,7 +196,7 @@ fn some_result(parts: Vec<Value>) -> Option<Option<Result<Term, RunParseError>>>
         None => None,
         Some(v) => match result_of(v) {
             None => None,
-            Some(result) => Some(Some(result)),
+            Some(ended) => Some(Some(ended)),
         },
     }
 }
@@ -331,7 +330,8 @@ pub fn reduce_arguments(
     let at = Value::option(alloc, location_option(start))?;
     let with_start = with_value(with_production, at)?;
     let with_states = with_value(with_start, Value::plain(Atom::Cell(0)))?;
-    with_value(with_states, Value::plain(Atom::Cell(1)))
+    let args = with_value(with_states, Value::plain(Atom::Cell(1)))?;
+    Ok(args)
 }
 
 fn location_option(start: Option<Loc>) -> Option<Value>
