@@ -98,7 +98,7 @@ impl<'p> Runner<'p> {
         ensures { Meets result (λ v. v) self.new (ask function args.items self.old) }
     {
         let none = Vec::new(self.alloc());
-        let (v, _) = self.ask_over(function, args, none)?;
+        let (v, _cells) = self.ask_over(function, args, none)?;
         Ok(v)
     }
 
@@ -258,7 +258,7 @@ impl<'p> Definition for Runner<'p> {
     fn expected_tokens_from_states(&mut self, states: &[i32]) -> Result<Vec<String>, Stop> {
         let cells = lent_states(self.alloc(), states)?;
         let args = single(self.alloc(), Value::plain(Atom::Cell(0)))?;
-        let (v, _) = self.ask_over(self.methods.expected_tokens_from_states, args, cells)?;
+        let (v, _cells) = self.ask_over(self.methods.expected_tokens_from_states, args, cells)?;
         self.texts(&v)
     }
 
