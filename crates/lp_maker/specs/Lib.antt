@@ -1,0 +1,4 @@
+pub mod Texts
+pub mod Slots
+pub mod Constructs
+pub mod Making

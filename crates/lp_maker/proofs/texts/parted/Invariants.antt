@@ -1,0 +1,10 @@
+-- The pieces so far, and those of what is left.
+use Rattle.std.proofs.Common.{◌≡◌, ◌++◌, length, map}
+use Rattle.lp_maker.specs.Texts.{pieces, pieces_within}
+use Rattle.lp_maker.proofs.texts.parted.Given as goal
+
+abbrev pub invariant-loop-left : goal.invariant-loop-left
+invariant-loop-left l = map (λ piece. piece.now) l.pieces.items ++ pieces_within l.left l.separator l.rest ≡ pieces l.separator l.text
+
+abbrev pub decreases-loop-left : goal.decreases-loop-left
+decreases-loop-left l = l.left
