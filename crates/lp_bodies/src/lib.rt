@@ -3,6 +3,7 @@
 #![tactic(auto)]
 
 pub mod action;
+mod inlining;
 pub mod methods;
 pub mod reduce;
 pub mod source;

@@ -11,7 +11,7 @@ use Rattle.lp_core.specs.declared.value.Tag.TheVariants as tag
 use Rattle.lp_core.specs.Tree.{Tree}
 use Rattle.lp_form.specs.declared.part.Part.TheVariants as part
 use Rattle.lp_repr.specs.contracts.text.TextOrd.TheImpl as text_ord
-use Rattle.lp_view.specs.PartLists.{Form, is_a, hole_of, parts_of}
+use Rattle.lp_view.specs.PartLists.{Form, is_a, hole_of, parts_of, over}
 use Rattle.lp_maker.specs.declared.maker.Maker.{Maker}
 use Rattle.lp_maker.specs.Texts.{Binding, Nothing, Triple, Named, bound_of, plain, pieces}
 use Rattle.lp_maker.specs.Slots.{Names, no_names, after_slots, bound, slot_of}
@@ -129,13 +129,9 @@ bind prefix (Named name) names = bound (plain prefix name) names
 abbrev pub bind_row : List ℕ → Names → Form → Names
 bind_row prefix names row = if is_a part.ParameterRow row then bind prefix (bound_of (hole_of 0 row)) names else names
 
-abbrev pub bind_rows : List ℕ → Names → List Form → Names
-bind_rows prefix names [] = names
-bind_rows prefix names (row ∷ rows) = bind_rows prefix (bind_row prefix names row) rows
-
 -- the names of a function with this header
 abbrev pub parameters : List ℕ → Form → Names
-parameters prefix header = bind_rows prefix no_names (parts_of header)
+parameters prefix header = over (bind_row prefix) no_names (parts_of header)
 
 -- a function without a body has no meaning
 abbrev pub finished : Option Function → Function

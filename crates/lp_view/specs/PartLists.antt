@@ -65,3 +65,8 @@ form_listed f = map item f.entries.now
 -- the parts that are left to go over
 abbrev pub parts_left : Parts → List Form
 parts_left p = level p.left (map item p.rest.now)
+
+-- what comes of going over parts, one after another
+abbrev pub over : {S : Type 0} → (S → Form → S) → S → List Form → S
+over step s [] = s
+over step s (form ∷ forms) = over step (step s form) forms
