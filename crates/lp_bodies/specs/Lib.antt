@@ -1,2 +1,3 @@
 pub mod Actions
 pub mod Inlining
+pub mod Source

@@ -44,7 +44,8 @@ fn inline_line<'p>(
         inline_call(maker, scope, line, parts)
     } else {
         let value = outer_line(maker, scope, line)?;
-        parts.push(value)
+        parts.push(value)?;
+        Ok(())
     }
 }
 
@@ -192,7 +193,8 @@ fn argument_row<'p>(
 {
     if is_a(Part::ArgumentRow, row) {
         let value = maker.written(scope, row.hole(0))?;
-        args.push(value)
+        args.push(value)?;
+        Ok(())
     } else {
         Ok(())
     }

@@ -1,3 +1,4 @@
 pub mod Cuts
+pub mod Parsed
 pub mod Pieces
 pub mod Rows

@@ -1,4 +1,5 @@
 pub mod Texts
+pub mod Numbers
 pub mod Slots
 pub mod Constructs
 pub mod Making

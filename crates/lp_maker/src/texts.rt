@@ -3,6 +3,7 @@
 ghost use Rattle.std.specs.Prelude.{◌≡◌, ◌++◌, ◌<◌, map, IfOk};
 ghost use Rattle.std.specs.Option.{option_copied, option_map};
 ghost use Rattle.std.specs.Str.{bytes_eq};
+ghost use Rattle.lp_maker.specs.Numbers.{number_of, wide_number_of, pair_of, range_of};
 ghost use Rattle.lp_maker.specs.Texts.{begins, after_front, cut_at, holds, pieces, pieces_within, bare, marked, plain, state_type_of, binding, bound_of, row_binding, is_idle, last_piece};
 
 use lp_core::StateType;
@@ -130,12 +131,16 @@ fn with_last<'t>(mut pieces: Vec<&'t str>, rest: &'t str) -> Result<Vec<&'t str>
 }
 
 /// A printed `usize`.
-pub fn number(text: &str) -> Option<usize> {
+pub fn number(text: &str) -> Option<usize>
+    ensures { result ≡ number_of text.now }
+{
     text.parse::<usize>().ok()
 }
 
 /// A printed number of any size that is looked at.
-pub fn wide_number(text: &str) -> Option<i64> {
+pub fn wide_number(text: &str) -> Option<i64>
+    ensures { result ≡ wide_number_of text.now }
+{
     text.parse::<i64>().ok()
 }
 
@@ -155,13 +160,25 @@ pub fn state_type(text: &str) -> Option<StateType>
 }
 
 /// `a` and `b` of `a..=b`, or a number twice.
-pub fn range(text: &str) -> Option<(i64, i64)> {
-    match text.split_once("..=") {
-        None => {
-            let n = wide_number(text)?;
-            Some((n, n))
-        }
-        Some((low, high)) => Some((wide_number(low)?, wide_number(high)?)),
+pub fn range(text: &str) -> Option<(i64, i64)>
+    ensures { result ≡ range_of text.now }
+{
+    match cut_at("..=", text) {
+        None => pair(wide_number(text), wide_number(text)),
+        Some((low, high)) => pair(wide_number(low), wide_number(high)),
+    }
+}
+
+/// Two numbers, if both are there.
+fn pair(low: Option<i64>, high: Option<i64>) -> Option<(i64, i64)>
+    ensures { result ≡ pair_of low high }
+{
+    match low {
+        None => None,
+        Some(low) => match high {
+            None => None,
+            Some(high) => Some((low, high)),
+        },
     }
 }
 
