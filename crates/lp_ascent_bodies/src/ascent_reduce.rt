@@ -1,8 +1,9 @@
 //! Recursive ascent: reductions, errors and trials.
 
 use crate::ascent::{Lines, give_made, take_line};
-use lp_bodies::reduce::{answer_if, part_closure, production_of, span_at, span_popped, state_at};
+use lp_bodies::reduce::{part_closure, span_at, span_popped};
 use lp_bodies::table::{filtered, keeping};
+use lp_bodies::trial::{answer_if, production_of, state_at};
 use lp_core::{Expr, Function, Join, Leaf, Op, StateType, Tag, Test};
 use lp_form::Part;
 use lp_maker::forms::{Form, first};

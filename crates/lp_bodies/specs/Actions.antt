@@ -10,7 +10,8 @@ use Rattle.lp_maker.specs.Texts.{Binding, Nothing, Triple, Named, begins, holds,
 use Rattle.lp_maker.specs.Slots.{Names, no_names}
 use Rattle.lp_maker.specs.Constructs.{stuck, joined, take_slot, one_after_another, function_of}
 use Rattle.lp_maker.specs.Making.{Making, with_text, read_name, parameters}
-use Rattle.lp_bodies.specs.Inlining.{Lines, inline_lines}
+use Rattle.lp_bodies.specs.Lines.{Lines}
+use Rattle.lp_bodies.specs.Inlining.{inline_lines}
 
 -- whether a printed type is a result with a parse error
 abbrev pub can_fail : List ℕ → Bool

@@ -7,24 +7,10 @@ use Rattle.lp_core.specs.Tree.{Tree, Apply}
 use Rattle.lp_form.specs.declared.part.Part.TheVariants as part
 use Rattle.lp_view.specs.PartLists.{Form, is_a, hole_of, parts_of, over}
 use Rattle.lp_maker.specs.Texts.{begins, after_front, cut_at}
-use Rattle.lp_maker.specs.Slots.{Names, bound, after_slots}
-use Rattle.lp_maker.specs.Constructs.{stuck, write, joined, take_slot, tried}
+use Rattle.lp_maker.specs.Slots.{Names, after_slots}
+use Rattle.lp_maker.specs.Constructs.{stuck, joined, take_slot, tried}
 use Rattle.lp_maker.specs.Making.{Making, read_name, read_written, call_named}
-
--- the names that can be seen after some lines, and the expressions of the lines
-pub record Lines : Type 0 where
-  pub names : Names
-  pub parts : List Tree
-
-abbrev pub lines_of : Names → List Tree → Lines
-lines_of names parts = record { names = names; parts = parts }
-
-abbrev pub with_part : Tree → Lines → Lines
-with_part value l = lines_of l.names (l.parts ++ value ∷ [])
-
--- `let name = value;`
-abbrev pub with_let : List ℕ → Tree → Lines → Lines
-with_let name value l = lines_of (bound name l.names) (l.parts ++ write l.names.next value ∷ [])
+use Rattle.lp_bodies.specs.Lines.{Lines, lines_of, with_part, with_let, numbered}
 
 -- `value.0` or `value.2`
 abbrev pub side : Tree → List ℕ → Tree
@@ -41,10 +27,6 @@ pointed prefix names text (Some name) = read_written prefix names name
 -- a side of a span: `~j.0`, `~j.2`, `*~lookbehind` or `*~lookahead`
 abbrev pub place_value : List ℕ → Names → List ℕ → Tree
 place_value prefix names text = pointed prefix names text (after_front (codes "*") text)
-
--- a name of the line's number
-abbrev pub numbered : List ℕ → Form → List ℕ
-numbered name line = name ++ hole_of 0 line
 
 abbrev pub span_start : List ℕ → Form → Lines → Lines
 span_start prefix line l = with_let (numbered (codes "~start") line) (place_value prefix l.names (hole_of 1 line)) l

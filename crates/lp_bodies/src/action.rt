@@ -111,9 +111,9 @@ fn user_call<'p>(
     Ok(Expr::join(join, args))
 }
 
-// The first slots, each for the last time.
+/// The first slots, each for the last time.
 #[tactic(auto, using(crate::proofs::Takes::takes_next))]
-fn takes(alloc: Global, count: usize) -> Result<Vec<Expr>, AllocError>
+pub fn takes(alloc: Global, count: usize) -> Result<Vec<Expr>, AllocError>
     ensures { IfOk result (λ args. args.items ≡ takes count) }
 {
     let mut args = Vec::new(alloc);

@@ -1,12 +1,14 @@
 //! The lines of an action that calls inlined actions.
 
-ghost use Rattle.std.specs.Prelude.{◌≡◌, ◌++◌, IfOk, OnOk};
+ghost use Rattle.std.specs.Prelude.{◌≡◌, IfOk, OnOk};
 ghost use Rattle.std.specs.Option.{option_map};
-ghost use Rattle.lp_view.specs.PartLists.{hole_of, listed};
+ghost use Rattle.lp_view.specs.PartLists.{listed};
 ghost use Rattle.lp_maker.specs.Making.{making};
 ghost use Rattle.lp_bodies.specs.Actions.{body_of, body_of_lines};
-ghost use Rattle.lp_bodies.specs.Inlining.{lines_of, with_let, side, dotted, pointed, place_value, inline_span, argument_row, call_arguments, action_call, ends_so, is_tried, inlined_value, inlined_names, spanned, inline_call, is_inline_call, is_outer_call, is_wrapped_call, outer_line, inline_line, inline_lines};
+ghost use Rattle.lp_bodies.specs.Lines.{lines_of};
+ghost use Rattle.lp_bodies.specs.Inlining.{side, dotted, pointed, place_value, inline_span, argument_row, call_arguments, action_call, ends_so, is_tried, inlined_value, inlined_names, spanned, inline_call, is_inline_call, is_outer_call, is_wrapped_call, outer_line, inline_line, inline_lines};
 
+use crate::lines::push_let;
 use lp_core::{Expr, Join, Op, Tag};
 use lp_form::Part;
 use lp_maker::forms::{Form, is_a};
@@ -79,25 +81,6 @@ fn outer_line<'p>(maker: &Maker<'p>, scope: &Scope, line: Form<'p>) -> Result<Ex
     } else {
         Ok(Expr::stuck())
     }
-}
-
-// `let name = value;`
-fn push_let<'p>(
-    maker: &Maker<'p>,
-    scope: &mut Scope,
-    name: &str,
-    rest: &str,
-    value: Expr,
-    parts: &mut Vec<Expr>,
-) -> Result<usize, AllocError>
-    ensures slot { IfOk result (λ slot. slot ≡ scope.old.next) }
-    ensures lines { OnOk result (lines_of scope.new parts.new.items ≡ with_let (name.now ++ rest.now) value (lines_of scope.old parts.old.items)) }
-{
-    let whole = numbered(maker.alloc, name, rest)?;
-    let slot = scope.bind(maker.alloc, whole.as_str())?;
-    let line = maker.write(slot, value)?;
-    parts.push(line)?;
-    Ok(slot)
 }
 
 // `let ~startN = ..; let ~endN = ..;`

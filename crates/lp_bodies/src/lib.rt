@@ -3,8 +3,11 @@
 #![tactic(auto)]
 
 pub mod action;
+mod arms;
 mod inlining;
+mod lines;
 pub mod methods;
 pub mod reduce;
 pub mod source;
 pub mod table;
+pub mod trial;

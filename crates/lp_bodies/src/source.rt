@@ -32,7 +32,8 @@ pub fn item_closure<'p>(maker: &mut Maker<'p>, located: bool) -> Result<usize, A
     maker.closure(function(1, 1, body))
 }
 
-fn function(params: usize, slots: usize, body: Expr) -> Function
+/// A function of so many parameters, with so many slots besides.
+pub fn function(params: usize, slots: usize, body: Expr) -> Function
     ensures { result ≡ function params slots body }
 {
     Function {
@@ -73,7 +74,8 @@ fn token_closure<'p>(maker: &mut Maker<'p>) -> Result<usize, AllocError>
     maker.closure(function(1, 0, body))
 }
 
-fn default_location() -> Expr
+/// `Default::default()` as a location.
+pub fn default_location() -> Expr
     ensures { result ≡ default_location }
 {
     Expr::plain(Leaf::DefaultLocation)

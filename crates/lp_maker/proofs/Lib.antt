@@ -1,4 +1,5 @@
 pub mod Cuts
+pub mod Ends
 pub mod Parsed
 pub mod Pieces
 pub mod Rows

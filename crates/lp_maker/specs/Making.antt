@@ -1,11 +1,12 @@
 -- What was made so far.
-use Rattle.std.specs.Prelude.{ℕ, ◌-◌, ◌^◌, nat_lt, Bool, List, [], ◌∷◌, ◌++◌, length, map, set, codes, Option, Some, None, if◌then◌else◌, slice_get}
+use Rattle.std.specs.Prelude.{ℕ, ℤ, ◌-◌, ◌^◌, nat_lt, Bool, List, [], ◌∷◌, ◌++◌, length, map, set, codes, Option, Some, None, if◌then◌else◌, slice_get}
 use Rattle.std.specs.BTreeMap.{insert_entry, is_at}
 use Rattle.std.specs.Map.{lookup}
 use Rattle.std.specs.Option.{unwrap_or}
 use Rattle.std.specs.declared.cmp.Ordering.{Ordering}
 use Rattle.lp_core.specs.declared.expr.Function.{Function}
 use Rattle.lp_core.specs.declared.expr.Table.{Table}
+use Rattle.lp_core.specs.declared.value.StateType.{StateType}
 use Rattle.lp_core.specs.declared.value.Tag.{Tag}
 use Rattle.lp_core.specs.declared.value.Tag.TheVariants as tag
 use Rattle.lp_core.specs.Tree.{Tree}
@@ -15,7 +16,15 @@ use Rattle.lp_view.specs.PartLists.{Form, is_a, hole_of, parts_of, over}
 use Rattle.lp_maker.specs.declared.maker.Maker.{Maker}
 use Rattle.lp_maker.specs.Texts.{Binding, Nothing, Triple, Named, bound_of, plain, pieces}
 use Rattle.lp_maker.specs.Slots.{Names, no_names, after_slots, bound, slot_of}
-use Rattle.lp_maker.specs.Constructs.{stuck, read_found, called}
+use Rattle.lp_maker.specs.Constructs.{stuck, read_found, take_found, called}
+
+-- a printed table: its state type, if it is one, and its entries
+pub record Entries : Type 0 where
+  pub kind : Option StateType
+  pub numbers : List ℤ
+
+abbrev pub entries_of : Table → Entries
+entries_of t = record { kind = t.entry_type; numbers = t.entries.items }
 
 -- the names of functions and of variants with their numbers, in the order of names; the functions, tables and
 -- texts; and what of these a module names once
@@ -24,7 +33,7 @@ pub record Making : Type 0 where
   pub names : List (List ℕ × ℕ)
   pub variants : List (List ℕ × ℕ)
   pub functions : List (Option Function)
-  pub tables : List Table
+  pub tables : List Entries
   pub texts : List (List ℕ)
   pub terminals : List ℕ
   pub action_table : ℕ
@@ -37,7 +46,7 @@ making m = record {
   names = m.names.entries;
   variants = m.variants.entries;
   functions = m.functions.items;
-  tables = m.tables.items;
+  tables = map entries_of m.tables.items;
   texts = m.texts.items;
   terminals = m.terminals.items;
   action_table = m.action_table;
@@ -93,7 +102,7 @@ defined number function m = record m { functions = if nat_lt number (length m.fu
 abbrev pub with_text : List ℕ → Making → Making
 with_text text m = record m { texts = m.texts ++ text ∷ [] }
 
-abbrev pub with_table : Table → Making → Making
+abbrev pub with_table : Entries → Making → Making
 with_table table m = record m { tables = m.tables ++ table ∷ [] }
 
 -- a variant has a number
@@ -137,3 +146,7 @@ parameters prefix header = over (bind_row prefix) no_names (parts_of header)
 abbrev pub finished : Option Function → Function
 finished None = record { params = 0; slots = 0; body = stuck }
 finished (Some function) = function
+
+-- what a name holds, which isn't read again
+abbrev pub take_name : Names → List ℕ → Tree
+take_name names name = take_found (slot_of name names)

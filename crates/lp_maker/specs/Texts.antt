@@ -1,5 +1,5 @@
 -- Texts in the holes of forms, as lists of bytes.
-use Rattle.std.specs.Prelude.{ℕ, zero, suc, ◌+◌, ◌||◌, Bool, List, [], ◌∷◌, ◌++◌, length, take, drop, eqb, codes, Option, Some, None, if◌then◌else◌, is_some}
+use Rattle.std.specs.Prelude.{ℕ, zero, suc, ◌+◌, ◌||◌, Bool, List, [], ◌∷◌, ◌++◌, length, take, drop, eqb, codes, Option, Some, None, if◌then◌else◌, is_some, slice_index, ◌==◌}
 use Rattle.std.specs.List.{starts_with}
 use Rattle.std.specs.Option.{option_map, unwrap_or}
 use Rattle.std.specs.Str.{bytes_eq}
@@ -67,6 +67,15 @@ marked prefix name = with_mark name (after_front prefix name)
 -- a name as scopes know it: without `&` before it, and with `~` for the prefix
 abbrev pub plain : List ℕ → List ℕ → List ℕ
 plain prefix s = marked prefix (bare s)
+
+-- where the bytes of this kind at the end of a front of a text begin
+abbrev pub end_place : ℕ → List ℕ → ℕ → ℕ
+end_place c s zero = 0
+end_place c s (suc n) = if slice_index s n == c then end_place c s n else suc n
+
+-- a text without the bytes of this kind at its end
+abbrev pub without_end : ℕ → List ℕ → List ℕ
+without_end c s = take (end_place c s (length s)) s
 
 -- a printed state type
 abbrev pub state_type_of : List ℕ → Option StateType

@@ -6,7 +6,7 @@ ghost use Rattle.lp_view.specs.PartLists.{listed};
 ghost use Rattle.lp_maker.specs.Texts.{binding};
 ghost use Rattle.lp_maker.specs.Slots.{after_slots};
 ghost use Rattle.lp_maker.specs.Constructs.{write, joined, give_back, here, on_tags, on_option, on_result, opened, tried, absent, fitted, state, index, function_of};
-ghost use Rattle.lp_maker.specs.Making.{making, unmade, number_in, with_name, with_function, declared, defined, with_text, with_table, with_variant, variant_tag, call_named, read_name, read_written, read_all, bind, bind_row, parameters, finished};
+ghost use Rattle.lp_maker.specs.Making.{making, unmade, number_in, with_name, with_function, declared, defined, with_text, with_table, with_variant, variant_tag, call_named, read_name, read_written, read_all, bind, bind_row, parameters, finished, entries_of, take_name};
 
 use crate::forms::{Form, is_a};
 use crate::scope::Scope;
@@ -118,7 +118,7 @@ impl<'p> Maker<'p> {
 
     pub fn table(&mut self, table: Table) -> Result<usize, AllocError>
         ensures number { IfOk result (λ n. n ≡ length (making self.old).tables) }
-        ensures made { OnOk result (making self.new ≡ with_table table (making self.old)) }
+        ensures made { OnOk result (making self.new ≡ with_table (entries_of table) (making self.old)) }
     {
         let number = self.tables.len();
         self.tables.push(table)?;
@@ -158,6 +158,16 @@ impl<'p> Maker<'p> {
         match scope.find(name) {
             None => Expr::stuck(),
             Some(slot) => Expr::read(slot),
+        }
+    }
+
+    /// What a name of the scope holds, which isn't read again.
+    pub fn taken(&self, scope: &Scope, name: &str) -> Expr
+        ensures { result ≡ take_name scope.now name.now }
+    {
+        match scope.find(name) {
+            None => Expr::stuck(),
+            Some(slot) => Expr::take(slot),
         }
     }
 
@@ -251,7 +261,7 @@ impl<'p> Maker<'p> {
     /// All that was made; a function without a body has no meaning.
     pub fn finish(self) -> Result<Code, AllocError>
         ensures functions { IfOk result (λ code. code.functions.items ≡ map finished (making self.entry).functions) }
-        ensures tables { IfOk result (λ code. code.tables.items ≡ (making self.entry).tables) }
+        ensures tables { IfOk result (λ code. map entries_of code.tables.items ≡ (making self.entry).tables) }
         ensures texts { IfOk result (λ code. code.texts.items ≡ (making self.entry).texts) }
     {
         let Maker {

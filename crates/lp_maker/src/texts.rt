@@ -1,10 +1,10 @@
 //! The texts in the holes of forms: names, numbers, patterns and lists of them.
 
-ghost use Rattle.std.specs.Prelude.{◌≡◌, ◌++◌, ◌<◌, map, IfOk};
+ghost use Rattle.std.specs.Prelude.{◌≡◌, ◌++◌, ◌<◌, ◌≤◌, length, map, IfOk};
 ghost use Rattle.std.specs.Option.{option_copied, option_map};
 ghost use Rattle.std.specs.Str.{bytes_eq};
 ghost use Rattle.lp_maker.specs.Numbers.{number_of, wide_number_of, pair_of, range_of};
-ghost use Rattle.lp_maker.specs.Texts.{begins, after_front, cut_at, holds, pieces, pieces_within, bare, marked, plain, state_type_of, binding, bound_of, row_binding, is_idle, last_piece};
+ghost use Rattle.lp_maker.specs.Texts.{begins, after_front, cut_at, holds, pieces, pieces_within, bare, marked, plain, state_type_of, binding, bound_of, row_binding, is_idle, last_piece, end_place, without_end};
 
 use lp_core::StateType;
 use lp_repr::Text;
@@ -148,15 +148,50 @@ pub fn wide_number(text: &str) -> Option<i64>
 pub fn state_type(text: &str) -> Option<StateType>
     ensures { result ≡ state_type_of text.now }
 {
-    if same(text, "i8") {
+    state_type_of(text.as_bytes())
+}
+
+/// A printed state type, by its bytes.
+pub fn state_type_of(text: &[u8]) -> Option<StateType>
+    ensures { result ≡ state_type_of text.now }
+{
+    if same_bytes(text, b"i8") {
         Some(StateType::I8)
-    } else if same(text, "i16") {
+    } else if same_bytes(text, b"i16") {
         Some(StateType::I16)
-    } else if same(text, "i32") {
+    } else if same_bytes(text, b"i32") {
         Some(StateType::I32)
     } else {
         None
     }
+}
+
+fn same_bytes(a: &[u8], b: &[u8]) -> bool
+    ensures { result ≡ bytes_eq a.now b.now }
+{
+    a == b
+}
+
+/// A text without the bytes of this kind at its end.
+pub fn without_end(end: u8, text: &[u8]) -> &[u8]
+    ensures { result.now ≡ without_end end text.now }
+{
+    &text[..end_place(end, text)]
+}
+
+#[tactic(auto, using(crate::proofs::Ends::place_falls, crate::proofs::Ends::place_stays))]
+fn end_place(end: u8, text: &[u8]) -> usize
+    ensures place { result ≡ end_place end text.now (length text.now) }
+    ensures within { result ≤ length text.now }
+{
+    let mut n = text.len();
+    while n > 0 {
+        if text[n - 1] != end {
+            return n;
+        }
+        n -= 1;
+    }
+    0
 }
 
 /// `a` and `b` of `a..=b`, or a number twice.

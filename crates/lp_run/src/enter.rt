@@ -4,12 +4,13 @@ use lp_ascent_bodies::ascent::{start, state_fn};
 use lp_ascent_bodies::ascent_reduce::{ascent_accepts, ascent_expected, ascent_simulate};
 use lp_bodies::action::action_fn;
 use lp_bodies::methods::make_methods;
-use lp_bodies::reduce::{accepts, pop, reduce, reduce_fn, simulate_reduce};
+use lp_bodies::reduce::{pop, reduce, reduce_fn};
 use lp_bodies::source::{is_located, item_closure};
 use lp_bodies::table::{
     action_lookup, expected, expected_from_states, goto_fn, make_table, make_terminals,
     token_to_integer, token_to_symbol,
 };
+use lp_bodies::trial::{accepts, simulate_reduce};
 use lp_core::{Code, Expr, Function};
 use lp_form::Part;
 use lp_maker::forms::{Form, first};

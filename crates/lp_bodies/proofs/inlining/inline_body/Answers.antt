@@ -4,7 +4,8 @@ use Rattle.lp_view.specs.PartLists.{listed}
 use Rattle.lp_view.proofs.Over.{over_step, over_done}
 use Rattle.lp_maker.specs.Making.{making}
 use Rattle.lp_bodies.specs.Actions.{body_of, body_of_lines}
-use Rattle.lp_bodies.specs.Inlining.{inline_line, inline_lines, lines_of}
+use Rattle.lp_bodies.specs.Lines.{lines_of}
+use Rattle.lp_bodies.specs.Inlining.{inline_line, inline_lines}
 use Rattle.lp_bodies.proofs.inlining.inline_body.Goals as goal
 
 pub loop-line-preserved : goal.loop-line-preserved

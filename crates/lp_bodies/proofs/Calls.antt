@@ -1,0 +1,17 @@
+-- The calls of a closure for each terminal, one more.
+use Rattle.std.proofs.Common.{◌≡◌, ℕ, suc, List, [], ◌∷◌, ◌++◌, length, ap, sym, ◌∙◌, append_assoc, arith}
+use Rattle.std.proofs.lemmas.List.{length-append}
+use Rattle.lp_core.specs.declared.expr.Leaf.TheVariants as leaf
+use Rattle.lp_core.specs.Tree.{Tree, Plain}
+use Rattle.lp_maker.specs.Constructs.{call_function, read}
+use Rattle.lp_bodies.specs.Tables.{kept_calls}
+
+-- a call more, and those of the terminals that are left
+pub call_more : (closure captured : ℕ) (calls all : List Tree) (one : Tree) (terminal : ℕ) (rest left : List ℕ) → left ≡ terminal ∷ rest → one ≡ call_function closure (Plain (leaf.Index (length calls)) ∷ Plain (leaf.Text terminal) ∷ read captured ∷ []) → calls ++ kept_calls closure captured (length calls) left ≡ all → (calls ++ one ∷ []) ++ kept_calls closure captured (length (calls ++ one ∷ [])) rest ≡ all
+call_more closure captured calls all one terminal rest left e is h =
+    let longer : length (calls ++ one ∷ []) ≡ suc (length calls) = omega (arith, length-append calls (one ∷ [])) in
+    ap (λ n. (calls ++ one ∷ []) ++ kept_calls closure captured n rest) longer
+    ∙ append_assoc calls (one ∷ []) (kept_calls closure captured (suc (length calls)) rest)
+    ∙ ap (λ (t : Tree). calls ++ (t ∷ kept_calls closure captured (suc (length calls)) rest)) is
+    ∙ sym (ap (λ (ts : List ℕ). calls ++ kept_calls closure captured (length calls) ts) e)
+    ∙ h
