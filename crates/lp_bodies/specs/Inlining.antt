@@ -1,5 +1,5 @@
 -- The lines of an action that calls inlined actions: each is let of a name, and the last one is the value.
-use Rattle.std.specs.Prelude.{ℕ, Bool, true, false, ◌||◌, List, [], ◌∷◌, ◌++◌, codes, Option, Some, None, if◌then◌else◌}
+use Rattle.std.specs.Prelude.{ℕ, Bool, false, ◌||◌, List, [], ◌∷◌, ◌++◌, codes, Option, Some, None, if◌then◌else◌}
 use Rattle.lp_core.specs.declared.expr.Join.TheVariants as join
 use Rattle.lp_core.specs.declared.expr.Op.TheVariants as op
 use Rattle.lp_core.specs.declared.value.Tag.TheVariants as tag

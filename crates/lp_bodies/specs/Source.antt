@@ -1,5 +1,5 @@
 -- The token source: how its items become triples.
-use Rattle.std.specs.Prelude.{ℕ, ◌||◌, Bool, true, false, List, [], ◌∷◌, length, Some, if◌then◌else◌}
+use Rattle.std.specs.Prelude.{ℕ, ◌||◌, Bool, [], ◌∷◌, length, Some, if◌then◌else◌}
 use Rattle.lp_core.specs.declared.expr.Function.{Function}
 use Rattle.lp_core.specs.declared.expr.Join.TheVariants as join
 use Rattle.lp_core.specs.declared.expr.Leaf.TheVariants as leaf

@@ -1,6 +1,6 @@
 //! The arms of a match over a header's parameters, gathered row by row.
 
-ghost use Rattle.std.specs.Prelude.{◌≡◌, ◌++◌, [], ◌∷◌, IfOk, OnOk};
+ghost use Rattle.std.specs.Prelude.{◌≡◌, IfOk, OnOk};
 ghost use Rattle.lp_view.specs.PartLists.{listed};
 ghost use Rattle.lp_maker.specs.Slots.{after_slots};
 ghost use Rattle.lp_maker.specs.Making.{making};

@@ -6,7 +6,7 @@ ghost use Rattle.lp_view.specs.PartLists.{listed};
 ghost use Rattle.lp_maker.specs.Making.{making};
 ghost use Rattle.lp_bodies.specs.Actions.{body_of, body_of_lines};
 ghost use Rattle.lp_bodies.specs.Lines.{lines_of};
-ghost use Rattle.lp_bodies.specs.Inlining.{side, dotted, pointed, place_value, inline_span, argument_row, call_arguments, action_call, ends_so, is_tried, inlined_value, inlined_names, spanned, inline_call, is_inline_call, is_outer_call, is_wrapped_call, outer_line, inline_line, inline_lines};
+ghost use Rattle.lp_bodies.specs.Inlining.{side, dotted, place_value, inline_span, argument_row, call_arguments, action_call, ends_so, is_tried, inlined_value, inlined_names, spanned, inline_call, is_inline_call, is_outer_call, is_wrapped_call, outer_line, inline_line, inline_lines};
 
 use crate::lines::push_let;
 use lp_core::{Expr, Join, Op, Tag};

@@ -159,10 +159,13 @@ fn recovery_row<'p>(
         let variant = maker.variant(row.hole(0))?;
         *symbol = maker.apply(Op::Wrap(variant), Expr::take(0))?;
         *uses = Expr::plain(Leaf::Bool(true));
+        Ok(())
     } else if is_a(Part::RecoveryOff, row) {
         *uses = Expr::plain(Leaf::Bool(false));
+        Ok(())
+    } else {
+        Ok(())
     }
-    Ok(())
 }
 
 // `~reduce(self.param, .., action, start_location, states, symbols)`: the fields stand in the first
@@ -221,6 +224,8 @@ fn field_row<'p>(
 {
     if is_a(Part::SelfRow, row) {
         args.push(maker.name(fields, row.hole(0)))?;
+        Ok(())
+    } else {
+        Ok(())
     }
-    Ok(())
 }

@@ -1,6 +1,6 @@
 -- The pieces of a text, one after another.
-use Rattle.std.proofs.Common.{◌≡◌, ℕ, zero, suc, ◌-◌, ◌<◌, List, [], ◌∷◌, ◌++◌, Option, Some, None, refl, ap, sym, ◌∙◌, append_assoc, arith}
-use Rattle.lp_maker.specs.Texts.{cut_at, last_piece, pieces_within, pieces_around}
+use Rattle.std.proofs.Common.{◌≡◌, ℕ, zero, suc, ◌-◌, ◌<◌, List, [], ◌∷◌, ◌++◌, Option, Some, None, ap, ◌∙◌, append_assoc, arith}
+use Rattle.lp_maker.specs.Texts.{cut_at, pieces_within, pieces_around}
 
 -- where there is no cut, the rest is the last piece
 pub piece_last : (n : ℕ) (p s : List ℕ) (done : List (List ℕ)) → 0 < n → None ≡ cut_at p s → done ++ pieces_within 0 p s ≡ done ++ pieces_within n p s

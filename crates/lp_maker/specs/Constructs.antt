@@ -1,8 +1,7 @@
 -- Expressions for the constructs of printed lines.
-use Rattle.std.specs.Prelude.{ℕ, ◌-◌, ℤ, Bool, List, [], ◌∷◌, Option, Some, None}
+use Rattle.std.specs.Prelude.{ℕ, ◌-◌, ℤ, List, [], ◌∷◌, Option, Some, None}
 use Rattle.lp_core.specs.declared.expr.Leaf.TheVariants as leaf
 use Rattle.lp_core.specs.declared.expr.Op.TheVariants as op
-use Rattle.lp_core.specs.declared.expr.Op.{Op}
 use Rattle.lp_core.specs.declared.expr.Join.{Join}
 use Rattle.lp_core.specs.declared.expr.Target.TheVariants as target
 use Rattle.lp_core.specs.declared.expr.Case.{Case}
@@ -14,8 +13,8 @@ use Rattle.lp_core.specs.declared.value.StateType.{StateType}
 use Rattle.lp_core.specs.declared.value.Tag.{Tag}
 use Rattle.lp_core.specs.declared.value.Tag.TheVariants as tag
 use Rattle.lp_core.specs.Numbers.{fitting}
-use Rattle.lp_core.specs.Tree.{Tree, Plain, Apply, Match, Call, Block, Trees, end, more, trees_of}
-use Rattle.lp_maker.specs.Slots.{Names, after_slots}
+use Rattle.lp_core.specs.Tree.{Tree, Plain, Apply, Match, Call, Block, trees_of}
+use Rattle.lp_maker.specs.Slots.{Names}
 
 -- what has no meaning
 abbrev pub stuck : Tree

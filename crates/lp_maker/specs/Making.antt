@@ -1,5 +1,5 @@
 -- What was made so far.
-use Rattle.std.specs.Prelude.{ℕ, ℤ, ◌-◌, ◌^◌, nat_lt, Bool, List, [], ◌∷◌, ◌++◌, length, map, set, codes, Option, Some, None, if◌then◌else◌, slice_get}
+use Rattle.std.specs.Prelude.{ℕ, ℤ, ◌-◌, ◌^◌, nat_lt, List, [], ◌∷◌, ◌++◌, length, map, set, codes, Option, Some, None, if◌then◌else◌}
 use Rattle.std.specs.BTreeMap.{insert_entry, is_at}
 use Rattle.std.specs.Map.{lookup}
 use Rattle.std.specs.Option.{unwrap_or}

@@ -92,9 +92,10 @@ impl<'p> Maker<'p> {
     pub fn define(&mut self, number: usize, function: Function)
         ensures { making self.new ≡ defined number function (making self.old) }
     {
-        if number < self.functions.len() {
-            self.functions[number] = Some(function);
+        if number >= self.functions.len() {
+            return;
         }
+        self.functions[number] = Some(function);
     }
 
     /// A closure: a function without a name.

@@ -124,9 +124,10 @@ fn push_piece<'t>(
 fn with_last<'t>(mut pieces: Vec<&'t str>, rest: &'t str) -> Result<Vec<&'t str>, AllocError>
     ensures { IfOk result (λ v. map (λ piece. piece.now) v.items ≡ map (λ piece. piece.now) pieces.entry.items ++ last_piece rest.now) }
 {
-    if !rest.is_empty() {
-        pieces.push(rest)?;
+    if rest.is_empty() {
+        return Ok(pieces);
     }
+    pieces.push(rest)?;
     Ok(pieces)
 }
 

@@ -4,7 +4,7 @@ use Rattle.std.specs.Prelude.{min}
 use Rattle.std.proofs.lemmas.List.{take_min, drop_min, take-map, drop-map, length-map}
 use Rattle.lp_tree.specs.ProgramTree.{Item, item}
 use Rattle.lp_tree.specs.declared.tree.Entry.{Entry}
-use Rattle.lp_view.specs.PartLists.{Form, level, parts_of}
+use Rattle.lp_view.specs.PartLists.{level, parts_of}
 
 -- none are asked for, and none are there
 pub level_none : (n : ℕ) (es : List Item) → n ≡ 0 → level n es ≡ []

@@ -1,5 +1,5 @@
 -- Going over the parts that are left, one after another.
-use Rattle.std.proofs.Common.{◌≡◌, List, [], ◌∷◌, Option, Some, None, ap, sym, subst, ◌∙◌}
+use Rattle.std.proofs.Common.{◌≡◌, [], ◌∷◌, Option, Some, None, ap, sym, subst, ◌∙◌}
 use Rattle.std.specs.Iterator.{YieldsFirstBy}
 use Rattle.lp_view.specs.PartLists.{Form, over, listed, parts_left}
 use Rattle.lp_view.specs.declared.part.PartRef.{PartRef}

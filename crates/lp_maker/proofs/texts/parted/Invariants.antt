@@ -1,5 +1,5 @@
 -- The pieces so far, and those of what is left.
-use Rattle.std.proofs.Common.{◌≡◌, ◌++◌, length, map}
+use Rattle.std.proofs.Common.{◌≡◌, ◌++◌, map}
 use Rattle.lp_maker.specs.Texts.{pieces, pieces_within}
 use Rattle.lp_maker.proofs.texts.parted.Given as goal
 
