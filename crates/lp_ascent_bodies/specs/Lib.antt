@@ -1,0 +1,2 @@
+pub mod AscentTrials
+pub mod AscentReductions

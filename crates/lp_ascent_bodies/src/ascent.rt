@@ -1,6 +1,12 @@
 //! Recursive ascent: the `parse` method and the state functions.
 
+ghost use Rattle.std.specs.Prelude.{◌≡◌, IfOk, OnOk};
+ghost use Rattle.lp_view.specs.PartLists.{listed};
+ghost use Rattle.lp_bodies.specs.Lines.{lines_of};
+ghost use Rattle.lp_ascent_bodies.specs.AscentReductions.{give_made, take_line};
+
 use crate::ascent_reduce::{ascent_reduce, expected_error};
+use lp_bodies::lines::push_let;
 use lp_bodies::reduce::vec_type;
 use lp_bodies::table::captured;
 use lp_core::{Case, Expr, Function, Join, Leaf, Op, Place, StateType, Tag, Test};
@@ -149,7 +155,9 @@ impl Arms {
 }
 
 /// `return Ok(~result);`.
-pub fn give_made<'p>(maker: &Maker<'p>, lines: Lines) -> Result<Expr, AllocError> {
+pub fn give_made<'p>(maker: &Maker<'p>, lines: Lines) -> Result<Expr, AllocError>
+    ensures { IfOk result (λ v. v ≡ give_made lines) }
+{
     let good = maker.apply(Op::Wrap(Tag::Success), Expr::read(lines.made))?;
     maker.give_back(good)
 }
@@ -174,11 +182,12 @@ pub fn take_line<'p>(
     scope: &mut Scope,
     line: Form<'p>,
     parts: &mut Vec<Expr>,
-) -> Result<(), AllocError> {
+) -> Result<(), AllocError>
+    ensures { OnOk result (lines_of scope.new parts.new.items ≡ take_line (listed line.entry) (lines_of scope.old parts.old.items)) }
+{
     let name = numbered(maker.alloc, "~sym", line.hole(0))?;
     let taken = maker.apply(Op::TakeOut, maker.name(scope, name.as_str()))?;
-    let slot = scope.bind(maker.alloc, name.as_str())?;
-    parts.push(maker.write(slot, taken)?)?;
+    push_let(maker, scope, "~sym", line.hole(0), taken, parts)?;
     Ok(())
 }
 

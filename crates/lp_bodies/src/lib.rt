@@ -3,9 +3,9 @@
 #![tactic(auto)]
 
 pub mod action;
-mod arms;
+pub mod arms;
 mod inlining;
-mod lines;
+pub mod lines;
 pub mod methods;
 pub mod reduce;
 pub mod source;

@@ -197,8 +197,8 @@ fn range_case(arms: &mut Arms, text: &str) -> Result<(), AllocError>
     }
 }
 
-// The match of a value, which stands in this slot.
-fn choice_at<'p>(
+/// The match of a value, which stands in this slot.
+pub fn choice_at<'p>(
     maker: &Maker<'p>,
     value: Expr,
     slot: usize,

@@ -1,7 +1,7 @@
 //! A program is entered once: its forms become functions of the core language.
 
 use lp_ascent_bodies::ascent::{start, state_fn};
-use lp_ascent_bodies::ascent_reduce::{ascent_accepts, ascent_expected, ascent_simulate};
+use lp_ascent_bodies::ascent_trial::{ascent_accepts, ascent_expected, ascent_simulate};
 use lp_bodies::action::action_fn;
 use lp_bodies::methods::make_methods;
 use lp_bodies::reduce::{pop, reduce, reduce_fn};
