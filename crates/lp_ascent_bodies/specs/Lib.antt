@@ -1,2 +1,3 @@
 pub mod AscentTrials
 pub mod AscentReductions
+pub mod AscentStates

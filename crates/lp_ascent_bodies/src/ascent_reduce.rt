@@ -102,8 +102,8 @@ fn quiet_line<'p>(
     }
 }
 
-// Whether the lines end with a return.
-fn returns(form: Form<'_>) -> bool
+/// Whether the lines end with a return.
+pub fn returns(form: Form<'_>) -> bool
     ensures { result ≡ returns (listed form.entry) }
 {
     let mut found = false;

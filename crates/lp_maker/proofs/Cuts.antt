@@ -17,7 +17,7 @@ front_taken [] rest = refl
 front_taken (b ∷ bs) rest = ap (λ (xs : List ℕ). b ∷ xs) (front_taken bs rest)
 
 pub has_front : (p s rest : List ℕ) → s ≡ p ++ rest → begins p s ≡ true
-has_front p s rest e = (bytes_eq-Decides p (take (length p) s)).1 (front_taken p rest ∙ ap (take (length p)) (sym e))
+has_front p s rest e = (bytes_eq-Decides p (take (length p) s)).1 (front_taken p rest ∙ ap (λ (xs : List ℕ). take (length p) xs) (sym e))
 
 -- what `strip_prefix` gives
 pub stripped : (p s : List ℕ) (r : Option (Bor (List ℕ))) → MatchOption r (FindsTextPrefix p s None) (λ x. StripsPrefix (FindsTextPrefix p) s x.now) → option_copied r ≡ after_front p s
