@@ -1,19 +1,22 @@
 -- The `parse` method of recursive ascent, and what state functions do after a shift or a reduction.
-use Rattle.std.specs.Prelude.{ℕ, Bool, List, [], ◌∷◌, ◌++◌, length, codes, Option, Some, None, slice_get, if◌then◌else◌}
+use Rattle.std.specs.Prelude.{ℕ, List, [], ◌∷◌, ◌++◌, length, codes, Option, Some, None, slice_get, if◌then◌else◌}
 use Rattle.lp_ascent_bodies.specs.declared.ascent.Lines.{Lines as Shared}
+use Rattle.lp_ascent_bodies.specs.declared.ascent.GotoLines.{GotoLines}
 use Rattle.lp_core.specs.declared.expr.Join.TheVariants as join
 use Rattle.lp_core.specs.declared.expr.Leaf.TheVariants as leaf
 use Rattle.lp_core.specs.declared.expr.Op.TheVariants as op
 use Rattle.lp_core.specs.declared.expr.Test.TheVariants as test
 use Rattle.lp_core.specs.declared.value.Tag.{Tag}
 use Rattle.lp_core.specs.declared.value.Tag.TheVariants as tag
-use Rattle.lp_core.specs.Tree.{Tree, Plain, Apply, If, Match, trees_of}
+use Rattle.lp_core.specs.Tree.{Tree, Plain, Apply, If, Match, Loop, trees_of}
 use Rattle.lp_form.specs.declared.part.Part.TheVariants as part
 use Rattle.lp_view.specs.PartLists.{Form, is_a, hole_of, parts_of, over}
 use Rattle.lp_maker.specs.Numbers.{wide_number_of}
-use Rattle.lp_maker.specs.Slots.{Names, after_slots, cut_to}
+use Rattle.lp_maker.specs.Slots.{Names, after_slots, named, cut_to}
 use Rattle.lp_maker.specs.Constructs.{stuck, read, take_slot, write, joined, call_function, one_after_another, give_back, here, on_option, on_result, opened, tried, absent, state}
 use Rattle.lp_maker.specs.Making.{Making, with_variant, variant_tag, read_name, read_all, call_named}
+use Rattle.lp_bodies.specs.Arms.{Gathered, gathered, no_arms, with_case, with_body}
+use Rattle.lp_bodies.specs.Tables.{choice_at}
 use Rattle.lp_bodies.specs.Lines.{Lines, lines_of, with_part, with_let, numbered}
 use Rattle.lp_bodies.specs.Reductions.{Done, done_of, next_slot, states}
 use Rattle.lp_ascent_bodies.specs.AscentReductions.{top_slot, take_line, returns, give_made, return_line}
@@ -140,3 +143,50 @@ goto_arm m shared made names line = block_value (arm_lines m shared made names l
 
 abbrev pub goto_arm_names : Making → Shared → ℕ → Names → Form → Names
 goto_arm_names m shared made names line = block_names (length names.known) (arm_lines m shared made names line)
+
+-- what was gathered of a loop over gotos: the names, the checks of empty slots, the arms, what is done with another
+-- symbol, and what was made
+pub record Going : Type 0 where
+  pub names : Names
+  pub checks : List Tree
+  pub arms : Gathered
+  pub other : Tree
+  pub made : Making
+
+abbrev pub going_of : Names → GotoLines → Making → Going
+going_of names g made = record { names = names; checks = g.checks.items; arms = gathered g.arms; other = g.other; made = made }
+
+abbrev pub no_gotos : Names → Making → Going
+no_gotos names made = record { names = names; checks = []; arms = no_arms; other = stuck; made = made }
+
+-- `return Ok((~lookahead, ~nt));`, whose parts stand in these slots
+abbrev pub goto_other : ℕ → ℕ → Tree
+goto_other token made = give_back (Apply (op.Wrap tag.Success) (joined (join.Make tag.Tuple) (take_slot token ∷ take_slot made ∷ [])))
+
+-- the arm of a nonterminal, in which the lookahead stands in a slot
+abbrev pub going_arm : Shared → ℕ → ℕ → Names → Form → Going → Going
+going_arm shared token made names line g = record g {
+  names = goto_arm_names (with_variant (hole_of 0 line) g.made) shared made names line;
+  arms = with_body (goto_arm (with_variant (hole_of 0 line) g.made) shared made names line) (with_case (test.Is (variant_tag (hole_of 0 line) g.made)) g.arms);
+  made = with_variant (hole_of 0 line) g.made;
+}
+
+abbrev pub going_row : Shared → ℕ → ℕ → Going → Form → Going
+going_row shared token made g line =
+    if is_a part.EmptyCheck line then record g { checks = g.checks ++ empty_check shared g.names line ∷ [] } else (if is_a part.GotoArm line then going_arm shared token made (named (codes "~lookahead") token g.names) line g else (if is_a part.GotoOther line then record g { other = goto_other token made } else g))
+
+abbrev pub going_rows : Shared → ℕ → ℕ → Form → Going → Going
+going_rows shared token made form g = over (going_row shared token made) g (parts_of form)
+
+-- one turn: the checks, what a state function gave in two parts, and the arm of its symbol
+abbrev pub goto_turn : Shared → ℕ → ℕ → Going → Tree
+goto_turn shared token made g =
+    one_after_another (g.checks ++ Apply (op.Parts token 2) (read shared.made) ∷ choice_at (take_slot made) made g.other g.arms ∷ [])
+
+abbrev pub goto_done : Shared → ℕ → ℕ → ℕ → Going → Done
+goto_done shared mark token made g = done_of (Loop (goto_turn shared token made g)) (cut_to mark g.names) g.made
+
+-- goes on with what a state function gave, turn by turn
+abbrev pub goto_loop : Shared → Making → Names → Form → Done
+goto_loop shared m names form =
+    goto_done shared (length names.known) names.next (next_slot names.next) (going_rows shared names.next (next_slot names.next) form (no_gotos (after_slots 2 names) m))

@@ -2,17 +2,20 @@
 
 ghost use Rattle.std.specs.Prelude.{◌≡◌, IfOk, OnOk};
 ghost use Rattle.std.specs.Option.{option_map};
-ghost use Rattle.lp_view.specs.PartLists.{listed};
-ghost use Rattle.lp_maker.specs.Making.{making};
+ghost use Rattle.lp_view.specs.PartLists.{hole_of, listed};
+ghost use Rattle.lp_maker.specs.Making.{Making, making, with_variant, variant_tag};
+ghost use Rattle.lp_maker.specs.Slots.{Names};
+ghost use Rattle.lp_bodies.specs.Arms.{gathered, with_case, with_body};
 ghost use Rattle.lp_bodies.specs.Lines.{lines_of};
 ghost use Rattle.lp_bodies.specs.Reductions.{done_of};
 ghost use Rattle.lp_ascent_bodies.specs.AscentReductions.{give_made, take_line};
-ghost use Rattle.lp_ascent_bodies.specs.AscentStates.{source_triple, source_error, item_value, next_token, after_token, first_call, start_value, started, start, slot_line, take_row, take_rows, push_state, state_call, call_state, transition, found_transition, empty_check, goto_arm, goto_arm_names};
+ghost use Rattle.lp_ascent_bodies.specs.AscentStates.{source_triple, source_error, item_value, next_token, after_token, first_call, start_value, started, start, slot_line, take_row, take_rows, push_state, state_call, call_state, transition, found_transition, empty_check, goto_arm, goto_arm_names, going_of, going_row, going_rows, goto_other, goto_turn, goto_loop};
 
 use crate::ascent_reduce::{ascent_reduce, expected_error, returns};
+use lp_bodies::arms::Arms;
 use lp_bodies::lines::push_let;
 use lp_bodies::reduce::vec_type;
-use lp_bodies::table::captured;
+use lp_bodies::table::{captured, choice_at};
 use lp_core::{Case, Expr, Function, Join, Leaf, Op, Place, StateType, Tag, Test};
 use lp_form::Part;
 use lp_maker::forms::{Form, first, is_a};
@@ -182,29 +185,13 @@ pub fn state_fn<'p>(maker: &mut Maker<'p>, form: Form<'p>) -> Result<Function, A
             _ => {}
         }
     }
-    let Arms { cases, bodies } = arms;
+    let Arms { cases, bodies, .. } = arms;
     let token = Expr::take(lines.lookahead);
     parts.push(Expr::select(maker.alloc, token, lines.lookahead, cases, bodies)?)?;
     if let Some(rest) = after {
         parts.push(rest)?;
     }
     Ok(maker.function(params, &scope, Expr::block(parts)))
-}
-
-/// The arms of a match on the lookahead.
-#[derive(Drop)]
-pub struct Arms {
-    cases: Vec<Case>,
-    bodies: Vec<Expr>,
-}
-
-impl Arms {
-    fn new(alloc: std::alloc::Global) -> Arms {
-        Arms {
-            cases: Vec::new(alloc),
-            bodies: Vec::new(alloc),
-        }
-    }
 }
 
 /// `return Ok(~result);`.
@@ -440,46 +427,129 @@ fn end_case(arms: &mut Arms) -> Result<(), AllocError> {
     Ok(())
 }
 
+/// What was gathered of a loop over gotos: the checks of empty slots, the arms, and what is done with another
+/// symbol.
+#[derive(Drop)]
+pub struct GotoLines {
+    pub checks: Vec<Expr>,
+    pub arms: Arms,
+    pub other: Expr,
+}
+
 // Goes on with what a state function gave, turn by turn.
 fn goto_loop<'p>(
     maker: &mut Maker<'p>,
     scope: &mut Scope,
     lines: Lines,
     form: Form<'p>,
-) -> Result<Expr, AllocError> {
+) -> Result<Expr, AllocError>
+    ensures { IfOk result (λ v. done_of v scope.new (making maker.new) ≡ goto_loop lines (making maker.old) scope.old (listed form.entry)) }
+{
     let mark = scope.open();
-    let mut parts = Vec::new(maker.alloc);
-    let (token, unpacked) = maker.unpack(scope, 2, Expr::read(lines.made))?;
+    let token = scope.fresh_many(2);
     let made = token.saturating_add(1);
-    let mut cases = Vec::new(maker.alloc);
-    let mut bodies = Vec::new(maker.alloc);
-    let mut other = Expr::stuck();
-    for line in form.parts() {
-        match line.part() {
-            Part::EmptyCheck => parts.push(empty_check(maker, scope, lines, line)?)?,
-            Part::GotoArm => {
-                scope.name(maker.alloc, "~lookahead", token)?;
-                let variant = maker.variant(line.hole(0))?;
-                cases.push(here(Test::Is(variant), bodies.len()))?;
-                bodies.push(goto_arm(maker, scope, lines, line, made)?)?;
-            }
-            Part::GotoOther => {
-                let answer = maker.pair(
-                    Join::Make(Tag::Tuple),
-                    Expr::take(token),
-                    Expr::take(made),
-                )?;
-                let good = maker.apply(Op::Wrap(Tag::Success), answer)?;
-                other = maker.give_back(good)?;
-            }
-            _ => {}
-        }
-    }
-    parts.push(unpacked)?;
-    bodies.push(other)?;
-    parts.push(Expr::select(maker.alloc, Expr::take(made), made, cases, bodies)?)?;
+    let mut gotos = GotoLines {
+        checks: Vec::new(maker.alloc),
+        arms: Arms::new(maker.alloc),
+        other: Expr::stuck(),
+    };
+    going_rows(maker, scope, lines, (token, made), form, &mut gotos)?;
     scope.close(mark);
-    Expr::repeat(maker.alloc, Expr::block(parts))
+    let turn = goto_turn(maker, lines, token, made, gotos)?;
+    Expr::repeat(maker.alloc, turn)
+}
+
+fn going_rows<'p>(
+    maker: &mut Maker<'p>,
+    scope: &mut Scope,
+    lines: Lines,
+    slots: (usize, usize),
+    form: Form<'p>,
+    gotos: &mut GotoLines,
+) -> Result<(), AllocError>
+    ensures { OnOk result (going_of scope.new gotos.new (making maker.new) ≡ going_rows lines slots.0 slots.1 (listed form.entry) (going_of scope.old gotos.old (making maker.old))) }
+{
+    for line in form.parts() {
+        going_row(maker, scope, lines, slots, line, gotos)?;
+    }
+    Ok(())
+}
+
+fn going_row<'p>(
+    maker: &mut Maker<'p>,
+    scope: &mut Scope,
+    lines: Lines,
+    slots: (usize, usize),
+    line: Form<'p>,
+    gotos: &mut GotoLines,
+) -> Result<(), AllocError>
+    ensures { OnOk result (going_of scope.new gotos.new (making maker.new) ≡ going_row lines slots.0 slots.1 (going_of scope.old gotos.old (making maker.old)) (listed line.entry)) }
+{
+    let (token, made) = slots;
+    if is_a(Part::EmptyCheck, line) {
+        let check = empty_check(maker, scope, lines, line)?;
+        gotos.checks.push(check)?;
+        Ok(())
+    } else if is_a(Part::GotoArm, line) {
+        scope.name(maker.alloc, "~lookahead", token)?;
+        going_arm(maker, scope, lines, made, line, &mut gotos.arms)
+    } else if is_a(Part::GotoOther, line) {
+        gotos.other = goto_other(maker, token, made)?;
+        Ok(())
+    } else {
+        Ok(())
+    }
+}
+
+// The arm of a nonterminal.
+fn going_arm<'p>(
+    maker: &mut Maker<'p>,
+    scope: &mut Scope,
+    lines: Lines,
+    made: usize,
+    line: Form<'p>,
+    arms: &mut Arms,
+) -> Result<(), AllocError>
+    ensures names { OnOk result (scope.new ≡ goto_arm_names (with_variant (hole_of 0 (listed line.entry)) (making maker.old)) lines made scope.old (listed line.entry)) }
+    ensures arms { OnOk result (gathered arms.new ≡ with_body (goto_arm (with_variant (hole_of 0 (listed line.entry)) (making maker.old)) lines made scope.old (listed line.entry)) (with_case (Test.Is (variant_tag (hole_of 0 (listed line.entry)) (making maker.old))) (gathered arms.old))) }
+    ensures made { OnOk result (making maker.new ≡ with_variant (hole_of 0 (listed line.entry)) (making maker.old)) }
+{
+    let variant = maker.variant(line.hole(0))?;
+    arms.case(Test::Is(variant))?;
+    let body = goto_arm(maker, scope, lines, line, made)?;
+    arms.body(body)
+}
+
+// `return Ok((~lookahead, ~nt));`.
+fn goto_other<'p>(maker: &Maker<'p>, token: usize, made: usize) -> Result<Expr, AllocError>
+    ensures { IfOk result (λ v. v ≡ goto_other token made) }
+{
+    let answer = maker.pair(Join::Make(Tag::Tuple), Expr::take(token), Expr::take(made))?;
+    let good = maker.apply(Op::Wrap(Tag::Success), answer)?;
+    maker.give_back(good)
+}
+
+// One turn: the checks, what a state function gave in two parts, and the arm of its symbol.
+fn goto_turn<'p>(
+    maker: &Maker<'p>,
+    lines: Lines,
+    token: usize,
+    made: usize,
+    gotos: GotoLines,
+) -> Result<Expr, AllocError>
+    ensures { IfOk result (λ v. (names : Names) (m : Making) → v ≡ goto_turn lines token made (going_of names gotos m)) }
+{
+    let GotoLines {
+        checks,
+        arms,
+        other,
+    } = gotos;
+    let mut parts = checks;
+    let unpacked = maker.apply(Op::Parts(token, 2), Expr::read(lines.made))?;
+    parts.push(unpacked)?;
+    let choice = choice_at(maker, Expr::take(made), made, other, arms)?;
+    parts.push(choice)?;
+    Ok(Expr::block(parts))
 }
 
 // `if ~symj.is_none() { return Ok(~result); }`.
