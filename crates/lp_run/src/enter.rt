@@ -1,5 +1,11 @@
 //! A program is entered once: its forms become functions of the core language.
 
+ghost use Rattle.std.specs.Prelude.{◌≡◌};
+ghost use Rattle.std.specs.Option.{option_map};
+ghost use Rattle.lp_tree.specs.ProgramTree.{program_items};
+ghost use Rattle.lp_view.specs.PartLists.{listed};
+ghost use Rattle.lp_run.specs.Modules.{is_items, items_of, is_interned_parser, is_plain_parser, is_parser, parser_of, items_under, items_named, module_items, module_of, is_interned, header_number};
+
 use lp_ascent_bodies::ascent::{start, state_fn};
 use lp_ascent_bodies::ascent_trial::{ascent_accepts, ascent_expected, ascent_simulate};
 use lp_bodies::action::action_fn;
@@ -13,11 +19,11 @@ use lp_bodies::table::{
 use lp_bodies::trial::{accepts, simulate_reduce};
 use lp_core::{Code, Expr, Function};
 use lp_form::Part;
-use lp_maker::forms::{Form, first};
+use lp_maker::forms::{Form, first, is_a};
 use lp_maker::maker::Maker;
 use lp_maker::methods::Methods;
 use lp_maker::scope::Scope;
-use lp_maker::texts::{Bound, bound_by, plain_name};
+use lp_maker::texts::{Bound, bound_by, plain_name, same};
 use lp_tree::Program;
 use lp_view::root;
 use std::alloc::{AllocError, Global};
@@ -60,38 +66,93 @@ pub fn enter(
 }
 
 // The items of the first module under a public name.
-fn module_of<'p>(program: &'p Program<'_>, start: &str) -> Option<Form<'p>> {
-    for module in root(program).as_part().parts() {
-        if module.part() == Part::ParseModule {
-            if let Some(items) = items_of(module) {
-                if let Some(parser) = parser_of(items) {
-                    if parser.hole(1) == start {
-                        return Some(items);
-                    }
-                }
-            }
+fn module_of<'p>(program: &'p Program<'_>, start: &str) -> Option<Form<'p>>
+    ensures { option_map listed result ≡ module_of start.now (program_items program.now) }
+{
+    for form in root(program).as_part().parts() {
+        if let Some(items) = module_items(start, form) {
+            return Some(items);
         }
     }
     None
 }
 
-fn items_of(module: Form<'_>) -> Option<Form<'_>> {
-    for child in module.parts() {
-        if child.part() == Part::TableItems || child.part() == Part::AscentItems {
+// What a module under this public name holds.
+fn module_items<'p>(start: &str, form: Form<'p>) -> Option<Form<'p>>
+    ensures { option_map listed result ≡ module_items start.now (listed form.entry) }
+{
+    if is_a(Part::ParseModule, form) {
+        items_named(start, items_of(form))
+    } else {
+        None
+    }
+}
+
+fn items_named<'p>(start: &str, items: Option<Form<'p>>) -> Option<Form<'p>>
+    ensures { option_map listed result ≡ items_named start.now (option_map listed items.entry) }
+{
+    match items {
+        None => None,
+        Some(items) => items_under(start, items, parser_of(items)),
+    }
+}
+
+fn items_under<'p>(start: &str, items: Form<'p>, parser: Option<Form<'p>>) -> Option<Form<'p>>
+    ensures { option_map listed result ≡ items_under start.now (listed items.entry) (option_map listed parser.entry) }
+{
+    match parser {
+        None => None,
+        Some(parser) => {
+            if same(parser.hole(1), start) {
+                Some(items)
+            } else {
+                None
+            }
+        }
+    }
+}
+
+fn is_items(form: Form<'_>) -> bool
+    ensures { result ≡ is_items (listed form.entry) }
+{
+    is_a(Part::TableItems, form) || is_a(Part::AscentItems, form)
+}
+
+fn items_of(form: Form<'_>) -> Option<Form<'_>>
+    ensures { option_map listed result ≡ items_of (listed form.entry) }
+{
+    for child in form.parts() {
+        if is_items(child) {
             return Some(child);
         }
     }
     None
 }
 
-fn parser_of(items: Form<'_>) -> Option<Form<'_>> {
+fn is_interned_parser(form: Form<'_>) -> bool
+    ensures { result ≡ is_interned_parser (listed form.entry) }
+{
+    is_a(Part::TableParserInterned, form) || is_a(Part::AscentParserInterned, form)
+}
+
+fn is_plain_parser(form: Form<'_>) -> bool
+    ensures { result ≡ is_plain_parser (listed form.entry) }
+{
+    is_a(Part::TableParserPlain, form) || is_a(Part::AscentParserPlain, form)
+}
+
+fn is_parser(form: Form<'_>) -> bool
+    ensures { result ≡ is_parser (listed form.entry) }
+{
+    is_interned_parser(form) || is_plain_parser(form)
+}
+
+fn parser_of(items: Form<'_>) -> Option<Form<'_>>
+    ensures { option_map listed result ≡ parser_of (listed items.entry) }
+{
     for child in items.parts() {
-        match child.part() {
-            Part::TableParserInterned
-            | Part::TableParserPlain
-            | Part::AscentParserInterned
-            | Part::AscentParserPlain => return Some(child),
-            _ => {}
+        if is_parser(child) {
+            return Some(child);
         }
     }
     None
@@ -140,13 +201,12 @@ fn enter_module<'p>(
     })
 }
 
-fn interned(items: Form<'_>) -> bool {
+fn interned(items: Form<'_>) -> bool
+    ensures { result ≡ is_interned (listed items.entry) }
+{
     match parser_of(items) {
         None => false,
-        Some(parser) => {
-            parser.part() == Part::TableParserInterned
-                || parser.part() == Part::AscentParserInterned
-        }
+        Some(parser) => is_interned_parser(parser),
     }
 }
 
@@ -196,7 +256,9 @@ fn function_name(form: Form<'_>) -> Option<(&'static str, &str)> {
 }
 
 // The printed number of a function with a header.
-fn header_number(form: Form<'_>) -> &str {
+fn header_number(form: Form<'_>) -> &str
+    ensures { result.now ≡ header_number (listed form.entry) }
+{
     match first(form) {
         None => "",
         Some(header) => header.hole(0),

@@ -1,5 +1,6 @@
 -- Parts of a program, each with all that is below it, as lists in the order of the text.
-use Rattle.std.specs.Prelude.{ℕ, zero, suc, ℤ, Bool, List, [], ◌∷◌, length, map, take, drop, get_or, Option, Some, None, slice_get}
+use Rattle.std.specs.Prelude.{ℕ, zero, suc, ℤ, Bool, List, [], ◌∷◌, length, map, take, drop, get_or, Option, Some, None, slice_get, if◌then◌else◌}
+use Rattle.std.specs.Option.{option_or}
 use Rattle.lp_form.specs.declared.part.Part.{Part}
 use Rattle.lp_form.specs.declared.part.Part.TheVariants as part
 use Rattle.lp_form.specs.contracts.part.PartPartialEq.TheImpl as equality
@@ -70,3 +71,13 @@ parts_left p = level p.left (map item p.rest.now)
 abbrev pub over : {S : Type 0} → (S → Form → S) → S → List Form → S
 over step s [] = s
 over step s (form ∷ forms) = over step (step s form) forms
+
+-- the first that passes a test
+abbrev pub first_that : (Form → Bool) → List Form → Option Form
+first_that test [] = None
+first_that test (form ∷ forms) = if test form then Some form else first_that test forms
+
+-- what the first gives of which a function gives anything
+abbrev pub first_given : (Form → Option Form) → List Form → Option Form
+first_given f [] = None
+first_given f (form ∷ forms) = option_or (f form) (first_given f forms)
