@@ -20,8 +20,9 @@ use lp_core::{Case, Expr, Function, Join, Leaf, Op, Place, StateType, Tag, Test}
 use lp_form::Part;
 use lp_maker::forms::{Form, first, is_a};
 use lp_maker::maker::{Maker, here};
+use lp_maker::patterns::form_of;
 use lp_maker::scope::Scope;
-use lp_maker::texts::{form_of, numbered, parted, wide_number};
+use lp_maker::texts::{numbered, parted, wide_number};
 use std::alloc::AllocError;
 
 /// `match ~tokens.next() { .. }`: the next token, where an error of the token source is returned.
@@ -261,7 +262,7 @@ fn shift_arm<'p>(
         Expr::read(token)
     } else {
         let names = parted(maker.alloc, line.hole(2), ", ")?;
-        captured(maker, token, line.hole(0), names)?
+        captured(maker, token, line.hole(0), names.as_slice())?
     };
     let end = Expr::read(start.saturating_add(2));
     let triple = vec![in maker.alloc; Expr::read(start), value, end]?;

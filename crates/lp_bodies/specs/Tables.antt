@@ -1,21 +1,24 @@
 -- Tables, and the functions that look at tables and tokens.
-use Rattle.std.specs.Prelude.{ℕ, suc, ℤ, pos, List, [], ◌∷◌, ◌++◌, length, codes, Option, Some, None, if◌then◌else◌}
+use Rattle.std.specs.Prelude.{ℕ, suc, ℤ, pos, ◌||◌, Bool, map, List, [], ◌∷◌, ◌++◌, length, codes, Option, Some, None, if◌then◌else◌}
 use Rattle.lp_core.specs.declared.expr.Function.{Function}
 use Rattle.lp_core.specs.declared.expr.Join.TheVariants as join
 use Rattle.lp_core.specs.declared.expr.Leaf.TheVariants as leaf
 use Rattle.lp_core.specs.declared.expr.Op.TheVariants as op
 use Rattle.lp_core.specs.declared.expr.Test.TheVariants as test
 use Rattle.lp_core.specs.declared.value.StateType.{StateType}
+use Rattle.lp_core.specs.declared.value.Tag.{Tag}
 use Rattle.lp_core.specs.declared.value.Tag.TheVariants as tag
 use Rattle.lp_core.specs.Tree.{Tree, Plain, Apply, If, Match, trees_of}
 use Rattle.lp_form.specs.declared.part.Part.TheVariants as part
 use Rattle.lp_view.specs.PartLists.{Form, is_a, hole_of, numbers_of, parts_of, over}
 use Rattle.lp_maker.specs.Numbers.{number_of, wide_number_of, range_of}
-use Rattle.lp_maker.specs.Slots.{Names, slot_of}
-use Rattle.lp_maker.specs.Texts.{pieces, state_type_of}
+use Rattle.lp_maker.specs.Patterns.{capture_of, captures_of, form_of, patterns_of}
+use Rattle.lp_maker.specs.Slots.{Names, after_slots, slot_of}
+use Rattle.lp_maker.specs.Texts.{holds, pieces, state_type_of}
 use Rattle.lp_maker.specs.Constructs.{stuck, read, write, joined, call_function, one_after_another, absent, state, index, function_of}
-use Rattle.lp_maker.specs.Making.{Making, Entries, with_function, with_text, call_named, take_name, parameters}
-use Rattle.lp_bodies.specs.Arms.{Gathered, no_arms, with_header, with_case, with_body, choice_function}
+use Rattle.lp_maker.specs.Making.{Making, Entries, with_function, with_text, with_variant, variant_tag, call_named, read_name, take_name, parameters}
+use Rattle.lp_bodies.specs.Arms.{Gathered, no_arms, with_header, with_case, with_number_case, with_body, with_names, choice_function}
+use Rattle.lp_bodies.specs.Reductions.{Done, done_of}
 use Rattle.lp_bodies.specs.Source.{function}
 
 -- a table of entries
@@ -153,3 +156,77 @@ integer_function m form = integer_by (integer_rows m form).arms
 
 abbrev pub with_integers : Form → Making → Making
 with_integers form m = (integer_rows m form).made
+
+-- what a name captures of the token in a slot that a pattern fits
+abbrev pub payload_found : ℕ → List ℕ → List ℕ → Option ℕ → Tree
+payload_found token pattern name None = stuck
+payload_found token pattern name (Some j) = if holds name pattern then Apply (op.Payload j) (read token) else stuck
+
+abbrev pub payload : List ℕ → ℕ → List ℕ → List ℕ → Tree
+payload prefix token pattern name = payload_found token pattern name (capture_of prefix name)
+
+abbrev pub payloads : List ℕ → ℕ → List ℕ → List (List ℕ) → List Tree
+payloads prefix token pattern names = map (payload prefix token pattern) names
+
+-- one payload, or the tuple of several
+abbrev pub one_or_tuple : List Tree → Tree
+one_or_tuple [] = joined join.Payloads []
+one_or_tuple (t ∷ []) = t
+one_or_tuple (t ∷ u ∷ ts) = joined join.Payloads (t ∷ u ∷ ts)
+
+abbrev pub captured : List ℕ → ℕ → List ℕ → List (List ℕ) → Tree
+captured prefix token pattern names = one_or_tuple (payloads prefix token pattern names)
+
+-- the arm of a pattern: its form is a text, by whose number tokens are tested
+abbrev pub pattern_arm : Tag → ℕ → List (List ℕ) → Reading → List ℕ → Reading
+pattern_arm variant token names s pattern =
+    reading_of (with_body (Apply (op.Wrap variant) (captured s.made.prefix token pattern names)) (with_case (test.Form (length s.made.texts)) s.arms)) (with_text (form_of s.made.prefix pattern) s.made)
+
+abbrev pub pattern_arms : Tag → ℕ → List (List ℕ) → Reading → List (List ℕ) → Reading
+pattern_arms variant token names s [] = s
+pattern_arms variant token names s (pattern ∷ patterns) = pattern_arms variant token names (pattern_arm variant token names s pattern) patterns
+
+abbrev pub matched_by : Tree → ℕ → Names → Reading → Done
+matched_by token slot names s = done_of (choice_at token slot stuck s.arms) names s.made
+
+-- a symbol by the patterns of its tokens
+abbrev pub symbol_match : Making → Names → Form → Done
+symbol_match m names row =
+    matched_by (take_name names (codes "~token")) names.next (after_slots 1 names) (pattern_arms (variant_tag (hole_of 2 row) m) names.next (captures_of (hole_of 3 row)) (reading_of no_arms (with_variant (hole_of 2 row) m)) (patterns_of (hole_of 1 row)))
+
+-- a symbol that is its token
+abbrev pub symbol_whole : Making → Names → Form → Done
+symbol_whole m names row =
+    done_of (Apply (op.Wrap (variant_tag (hole_of 1 row) m)) (take_name names (codes "~token"))) names (with_variant (hole_of 1 row) m)
+
+abbrev pub symbol_arm : Making → Names → Form → Done
+symbol_arm m names row = if is_a part.SymbolArm row then symbol_whole m names row else symbol_match m names row
+
+-- tests for printed numbers, all of which lead to the next body
+abbrev pub number_cases : Gathered → List (List ℕ) → Gathered
+number_cases a [] = a
+number_cases a (text ∷ texts) = number_cases (with_number_case text a) texts
+
+abbrev pub with_done : List (List ℕ) → Gathered → Done → Reading
+with_done texts a d = reading_of (with_body d.value (number_cases (with_names d.names a) texts)) d.made
+
+abbrev pub is_symbol : Form → Bool
+is_symbol row = is_a part.SymbolArm row || is_a part.SymbolMatch row
+
+-- a row is an arm, or the header
+abbrev pub symbol_row : Reading → Form → Reading
+symbol_row s row =
+    if is_symbol row then with_done (pieces (codes " | ") (hole_of 0 row)) s.arms (symbol_arm s.made s.arms.names row) else reading_of (with_header s.made.prefix row s.arms) s.made
+
+abbrev pub symbol_rows : Making → Form → Reading
+symbol_rows m form = over symbol_row (reading_of no_arms m) (parts_of form)
+
+abbrev pub symbol_by : Gathered → Function
+symbol_by a = choice_function (read_name a.names (codes "~token_index")) stuck a
+
+-- the symbol of a token, and what is made then
+abbrev pub symbol_function : Making → Form → Function
+symbol_function m form = symbol_by (symbol_rows m form).arms
+
+abbrev pub with_symbols : Form → Making → Making
+with_symbols form m = (symbol_rows m form).made

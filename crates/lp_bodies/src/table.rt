@@ -3,19 +3,19 @@
 ghost use Rattle.std.specs.Prelude.{◌≡◌, Some, length, map, IfOk, OnOk};
 ghost use Rattle.lp_view.specs.PartLists.{listed};
 ghost use Rattle.lp_maker.specs.Making.{making, with_function, with_table};
-ghost use Rattle.lp_bodies.specs.Arms.{gathered};
-ghost use Rattle.lp_bodies.specs.Tables.{printed_table, with_terminals, with_terminal, lookup_row, lookup_function, range_cases, range_case, goto_row, goto_rows, goto_match, goto_body, goto_arm, goto_arms, goto_function, choice_at, kept_calls, filtered, expected_closure, expected_function, keeping_closure, filter_found, expected_states_function, with_states_closure, integer_arm, integer_row, integer_rows, integer_function, with_integers, reading_of};
+ghost use Rattle.lp_bodies.specs.Arms.{gathered, no_arms};
+ghost use Rattle.lp_bodies.specs.Tables.{printed_table, with_terminals, with_terminal, lookup_row, lookup_function, range_cases, range_case, goto_row, goto_rows, goto_match, goto_body, goto_arm, goto_arms, goto_function, choice_at, kept_calls, filtered, expected_closure, expected_function, keeping_closure, filter_found, expected_states_function, with_states_closure, integer_arm, integer_row, integer_rows, integer_function, with_integers, reading_of, payload, payloads, one_or_tuple, captured, pattern_arm, pattern_arms, symbol_match, symbol_arm, number_cases, is_symbol, symbol_row, symbol_rows, symbol_function, with_symbols};
+ghost use Rattle.lp_bodies.specs.Reductions.{done_of};
 
 use crate::arms::Arms;
 use crate::source::function;
-use lp_core::{Case, Expr, Function, Join, Leaf, Op, StateType, Table, Tag, Test};
+use lp_core::{Expr, Function, Join, Leaf, Op, StateType, Table, Tag, Test};
 use lp_form::Part;
 use lp_maker::forms::{Form, is_a};
-use lp_maker::maker::{Maker, here};
+use lp_maker::maker::Maker;
+use lp_maker::patterns::{capture, captures, form_of, patterns};
 use lp_maker::scope::Scope;
-use lp_maker::texts::{
-    capture, captures, form_of, number, parted, patterns, range, state_type, wide_number,
-};
+use lp_maker::texts::{holds, number, parted, range, state_type, wide_number};
 use lp_repr::Text;
 use std::alloc::{AllocError, Global};
 
@@ -360,47 +360,120 @@ fn integer_arm<'p>(maker: &mut Maker<'p>, arms: &mut Arms, row: Form<'p>) -> Res
 }
 
 /// The symbol of a token.
-pub fn token_to_symbol<'p>(maker: &mut Maker<'p>, form: Form<'p>) -> Result<Function, AllocError> {
-    let mut arms = Arms::new(maker.alloc);
-    for row in form.parts() {
-        if row.part() == Part::SymbolArm || row.part() == Part::SymbolMatch {
-            for text in parted(maker.alloc, row.hole(0), " | ")? {
-                arms.number_case(text)?;
-            }
-            let body = symbol_arm(maker, &mut arms.scope, row)?;
-            arms.body(body)?;
-        } else {
-            arms.header(maker, row)?;
-        }
-    }
+pub fn token_to_symbol<'p>(maker: &mut Maker<'p>, form: Form<'p>) -> Result<Function, AllocError>
+    ensures function { IfOk result (λ f. f ≡ symbol_function (making maker.old) (listed form.entry)) }
+    ensures made { OnOk result (making maker.new ≡ with_symbols (listed form.entry) (making maker.old)) }
+{
+    let arms = symbol_rows(maker, form)?;
     let index = maker.name(&arms.scope, "~token_index");
     arms.finish(maker, index, Expr::stuck())
+}
+
+fn symbol_rows<'p>(maker: &mut Maker<'p>, form: Form<'p>) -> Result<Arms, AllocError>
+    ensures { IfOk result (λ arms. reading_of (gathered arms) (making maker.new) ≡ symbol_rows (making maker.old) (listed form.entry)) }
+{
+    let mut arms = Arms::new(maker.alloc);
+    for row in form.parts() {
+        symbol_row(maker, &mut arms, row)?;
+    }
+    Ok(arms)
+}
+
+fn is_symbol(row: Form<'_>) -> bool
+    ensures { result ≡ is_symbol (listed row.entry) }
+{
+    is_a(Part::SymbolArm, row) || is_a(Part::SymbolMatch, row)
+}
+
+// A row is an arm, or the header.
+fn symbol_row<'p>(maker: &mut Maker<'p>, arms: &mut Arms, row: Form<'p>) -> Result<(), AllocError>
+    ensures { OnOk result (reading_of (gathered arms.new) (making maker.new) ≡ symbol_row (reading_of (gathered arms.old) (making maker.old)) (listed row.entry)) }
+{
+    if is_symbol(row) {
+        let body = symbol_arm(maker, &mut arms.scope, row)?;
+        let texts = parted(maker.alloc, row.hole(0), " | ")?;
+        number_cases(arms, texts.as_slice())?;
+        arms.body(body)
+    } else {
+        arms.header(maker, row)
+    }
+}
+
+// Tests for printed numbers, all of which lead to the next body.
+fn number_cases(arms: &mut Arms, texts: &[&str]) -> Result<(), AllocError>
+    ensures { OnOk result (gathered arms.new ≡ number_cases (gathered arms.old) (map (λ text. text.now) texts.now)) }
+{
+    for text in texts {
+        arms.number_case(*text)?;
+    }
+    Ok(())
 }
 
 fn symbol_arm<'p>(
     maker: &mut Maker<'p>,
     scope: &mut Scope,
     row: Form<'p>,
-) -> Result<Expr, AllocError> {
-    let token = maker.taken(scope, "~token");
-    if row.part() == Part::SymbolArm {
+) -> Result<Expr, AllocError>
+    ensures { IfOk result (λ v. done_of v scope.new (making maker.new) ≡ symbol_arm (making maker.old) scope.old (listed row.entry)) }
+{
+    if is_a(Part::SymbolArm, row) {
         let variant = maker.variant(row.hole(1))?;
-        return maker.apply(Op::Wrap(variant), token);
+        maker.apply(Op::Wrap(variant), maker.taken(scope, "~token"))
+    } else {
+        symbol_match(maker, scope, row)
     }
+}
+
+// A symbol by the patterns of its tokens.
+fn symbol_match<'p>(
+    maker: &mut Maker<'p>,
+    scope: &mut Scope,
+    row: Form<'p>,
+) -> Result<Expr, AllocError>
+    ensures { IfOk result (λ v. done_of v scope.new (making maker.new) ≡ symbol_match (making maker.old) scope.old (listed row.entry)) }
+{
     let variant = maker.variant(row.hole(2))?;
+    let token = maker.taken(scope, "~token");
     let slot = scope.fresh();
-    let mut cases: Vec<Case> = Vec::new(maker.alloc);
-    let mut bodies = Vec::new(maker.alloc);
-    for pattern in patterns(maker.alloc, row.hole(1))? {
-        let form = form_of(maker.alloc, maker.prefix, pattern.as_str())?;
-        let form = maker.text(form)?;
-        cases.push(here(Test::Form(form), bodies.len()))?;
-        let names = captures(maker.alloc, row.hole(3))?;
-        let captured = captured(maker, slot, pattern.as_str(), names)?;
-        bodies.push(maker.apply(Op::Wrap(variant), captured)?)?;
+    let names = captures(maker.alloc, row.hole(3))?;
+    let found = patterns(maker.alloc, row.hole(1))?;
+    let arms = pattern_arms(maker, variant, slot, names.as_slice(), found.as_slice())?;
+    choice_at(maker, token, slot, Expr::stuck(), arms)
+}
+
+fn pattern_arms<'p>(
+    maker: &mut Maker<'p>,
+    variant: Tag,
+    token: usize,
+    names: &[&str],
+    found: &[Text],
+) -> Result<Arms, AllocError>
+    ensures { IfOk result (λ arms. reading_of (gathered arms) (making maker.new) ≡ pattern_arms variant token (map (λ name. name.now) names.now) (reading_of no_arms (making maker.old)) found.now) }
+{
+    let mut arms = Arms::new(maker.alloc);
+    for pattern in found {
+        pattern_arm(maker, variant, token, names, pattern.as_str(), &mut arms)?;
     }
-    bodies.push(Expr::stuck())?;
-    Expr::select(maker.alloc, token, slot, cases, bodies)
+    Ok(arms)
+}
+
+// The arm of a pattern.
+fn pattern_arm<'p>(
+    maker: &mut Maker<'p>,
+    variant: Tag,
+    token: usize,
+    names: &[&str],
+    pattern: &str,
+    arms: &mut Arms,
+) -> Result<(), AllocError>
+    ensures { OnOk result (reading_of (gathered arms.new) (making maker.new) ≡ pattern_arm variant token (map (λ name. name.now) names.now) (reading_of (gathered arms.old) (making maker.old)) pattern.now) }
+{
+    let body = captured(maker, token, pattern, names)?;
+    let body = maker.apply(Op::Wrap(variant), body)?;
+    let form = form_of(maker.alloc, maker.prefix, pattern)?;
+    let form = maker.text(form)?;
+    arms.case(Test::Form(form))?;
+    arms.body(body)
 }
 
 /// What the names capture of the token in a slot that a pattern fits: one payload, or the tuple of
@@ -409,24 +482,60 @@ pub fn captured<'p>(
     maker: &Maker<'p>,
     token: usize,
     pattern: &str,
-    names: Vec<&str>,
-) -> Result<Expr, AllocError> {
-    let mut payloads = Vec::new(maker.alloc);
+    names: &[&str],
+) -> Result<Expr, AllocError>
+    ensures { IfOk result (λ v. v ≡ captured (making maker.now).prefix token pattern.now (map (λ name. name.now) names.now)) }
+{
+    let all = payloads(maker, token, pattern, names)?;
+    Ok(one_or_tuple(all))
+}
+
+fn payloads<'p>(
+    maker: &Maker<'p>,
+    token: usize,
+    pattern: &str,
+    names: &[&str],
+) -> Result<Vec<Expr>, AllocError>
+    ensures { IfOk result (λ all. all.items ≡ payloads (making maker.now).prefix token pattern.now (map (λ name. name.now) names.now)) }
+{
+    let mut all = Vec::new(maker.alloc);
     for name in names {
-        let payload = match capture(maker.prefix, name) {
-            Some(j) => {
-                if pattern.contains(name) {
-                    maker.apply(Op::Payload(j), Expr::read(token))?
-                } else {
-                    Expr::stuck()
-                }
+        let one = payload(maker, token, pattern, *name)?;
+        all.push(one)?;
+    }
+    Ok(all)
+}
+
+fn payload<'p>(
+    maker: &Maker<'p>,
+    token: usize,
+    pattern: &str,
+    name: &str,
+) -> Result<Expr, AllocError>
+    ensures { IfOk result (λ v. v ≡ payload (making maker.now).prefix token pattern.now name.now) }
+{
+    match capture(maker.prefix, name) {
+        None => Ok(Expr::stuck()),
+        Some(j) => {
+            if holds(name, pattern) {
+                maker.apply(Op::Payload(j), Expr::read(token))
+            } else {
+                Ok(Expr::stuck())
             }
-            None => Expr::stuck(),
-        };
-        payloads.push(payload)?;
+        }
     }
-    if payloads.len() == 1 {
-        return Ok(payloads.remove(0));
+}
+
+// One payload, or the tuple of several.
+#[tactic(auto, using(crate::proofs::Calls::one_of, crate::proofs::Calls::tuple_of))]
+fn one_or_tuple(mut all: Vec<Expr>) -> Expr
+    ensures { result ≡ one_or_tuple all.items }
+{
+    if all.len() != 1 {
+        return Expr::join(Join::Payloads, all);
     }
-    Ok(Expr::join(Join::Payloads, payloads))
+    match all.pop() {
+        None => Expr::stuck(),
+        Some(one) => one,
+    }
 }

@@ -1,6 +1,6 @@
 //! The texts in the holes of forms: names, numbers, patterns and lists of them.
 
-ghost use Rattle.std.specs.Prelude.{◌≡◌, ◌++◌, ◌<◌, ◌≤◌, length, map, IfOk};
+ghost use Rattle.std.specs.Prelude.{◌≡◌, ◌++◌, ◌<◌, ◌≤◌, length, map, slice_index, IfOk};
 ghost use Rattle.std.specs.Option.{option_copied, option_map};
 ghost use Rattle.std.specs.Str.{bytes_eq};
 ghost use Rattle.lp_maker.specs.Numbers.{number_of, wide_number_of, pair_of, range_of};
@@ -180,10 +180,12 @@ pub fn without_end(end: u8, text: &[u8]) -> &[u8]
     &text[..end_place(end, text)]
 }
 
+/// Where the bytes of this kind at the end of a text begin.
 #[tactic(auto, using(crate::proofs::Ends::place_falls, crate::proofs::Ends::place_stays))]
-fn end_place(end: u8, text: &[u8]) -> usize
+pub fn end_place(end: u8, text: &[u8]) -> usize
     ensures place { result ≡ end_place end text.now (length text.now) }
     ensures within { result ≤ length text.now }
+    ensures byte { result < length text.now → slice_index text.now result ≡ end }
 {
     let mut n = text.len();
     while n > 0 {
@@ -216,73 +218,6 @@ fn pair(low: Option<i64>, high: Option<i64>) -> Option<(i64, i64)>
             Some(high) => Some((low, high)),
         },
     }
-}
-
-/// The number of a captured name: j of `tok` and j after the prefix.
-pub fn capture(prefix: &str, name: &str) -> Option<usize> {
-    let rest = name.strip_prefix(prefix)?;
-    number(rest.strip_prefix("tok")?)
-}
-
-/// A pattern's text with `_` for the names of captures.
-pub fn form_of(alloc: Global, prefix: &str, pattern: &str) -> Result<Text, AllocError> {
-    let name = numbered(alloc, prefix, "tok")?;
-    let mut form = String::new(alloc);
-    let mut rest = pattern;
-    for _name in 0..=pattern.len() {
-        match rest.split_once(name.as_str()) {
-            None => break,
-            Some((before, after)) => {
-                form.push_str(before)?;
-                form.push_str("_")?;
-                rest = after_digits(after);
-            }
-        }
-    }
-    form.push_str(rest)?;
-    Ok(Text(form))
-}
-
-fn after_digits(text: &str) -> &str {
-    text.trim_start_matches(|c: char| c.is_ascii_digit())
-}
-
-/// Patterns that ` | ` joins outside brackets and quotes.
-pub fn patterns(alloc: Global, text: &str) -> Result<Vec<Text>, AllocError> {
-    let mut found = Vec::new(alloc);
-    let mut now = String::new(alloc);
-    let mut depth = 0usize;
-    let mut quoted = false;
-    let mut escaped = false;
-    for c in text.chars() {
-        if quoted {
-            quoted = escaped || c != '"';
-            escaped = !escaped && c == '\\';
-        } else if c == '"' {
-            quoted = true;
-        } else if c == '(' || c == '[' || c == '{' {
-            depth = depth.saturating_add(1);
-        } else if c == ')' || c == ']' || c == '}' {
-            depth = depth.saturating_sub(1);
-        }
-        if c == '|' && depth == 0 && !quoted {
-            found.push(Text::from_str(alloc, now.as_str().trim())?)?;
-            now = String::new(alloc);
-        } else {
-            now.push(c)?;
-        }
-    }
-    found.push(Text::from_str(alloc, now.as_str().trim())?)?;
-    Ok(found)
-}
-
-/// The names of a capture, or of several in parentheses.
-pub fn captures<'t>(alloc: Global, text: &'t str) -> Result<Vec<&'t str>, AllocError> {
-    let inner = match text.strip_prefix('(') {
-        None => text,
-        Some(inner) => inner.trim_end_matches(')'),
-    };
-    parted(alloc, inner, ", ")
 }
 
 /// What a parameter row binds.
