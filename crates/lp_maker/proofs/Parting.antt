@@ -1,6 +1,8 @@
 -- Patterns are parted character by character; digits at a front, and where a text may be cut after them.
-use Rattle.std.proofs.Common.{◌≡◌, ℕ, zero, suc, ◌+◌, ◌-◌, ◌<◌, ◌≤◌, List, [], ◌∷◌, ◌++◌, length, get_or, map, refl, ap, subst, ◌∙◌, append_assoc, Option, Some, None, arith}
+use Rattle.std.proofs.Common.{◌≡◌, ℕ, zero, suc, ◌+◌, ◌-◌, ◌<◌, ◌≤◌, true, List, [], ◌∷◌, ◌++◌, length, get_or, map, refl, ap, subst, ◌∙◌, append_assoc, Option, Some, None, arith}
+use Rattle.std.specs.Char.{is_ascii_digit}
 use Rattle.std.specs.Str.{IsCharBoundary, IsUtf8}
+use Rattle.std.proofs.lemmas.Bool.Decides.{nat_tests}
 use Rattle.std.proofs.lemmas.Str.{IsCharBoundary-start, IsCharBoundary-after_ascii}
 use Rattle.std.specs.Prelude.{codes}
 use Rattle.lp_maker.specs.Patterns.{Parted, part_step, parting, after_digits, form_around, form_within}
@@ -44,3 +46,11 @@ form_more (suc n) name s a b old new pos e h =
     ∙ ap (λ (xs : List ℕ). xs ++ rest) (append_assoc old a (codes "_"))
     ∙ append_assoc old (a ++ codes "_") rest
     ∙ ap (λ (o : Option (List ℕ × List ℕ)). old ++ form_around (λ t. form_within n name t) s o) e
+
+-- no name more
+pub form_end : (n : ℕ) (name s done all : List ℕ) → n ≡ 0 → done ++ form_within n name s ≡ all → done ++ s ≡ all
+form_end zero name s done all e h = h
+form_end (suc n) name s done all e h = absurd (omega arith)
+
+pub small_digit : (c : ℕ) → is_ascii_digit c ≡ true → c < 128
+small_digit c h = grind (arith, nat_tests)

@@ -1,6 +1,6 @@
 -- The pieces of a text, one after another.
 use Rattle.std.proofs.Common.{◌≡◌, ℕ, zero, suc, ◌-◌, ◌<◌, List, [], ◌∷◌, ◌++◌, Option, Some, None, ap, ◌∙◌, append_assoc, arith}
-use Rattle.lp_maker.specs.Texts.{cut_at, pieces_within, pieces_around}
+use Rattle.lp_maker.specs.Texts.{cut_at, last_piece, pieces_within, pieces_around}
 
 -- where there is no cut, the rest is the last piece
 pub piece_last : (n : ℕ) (p s : List ℕ) (done : List (List ℕ)) → 0 < n → None ≡ cut_at p s → done ++ pieces_within 0 p s ≡ done ++ pieces_within n p s
@@ -17,3 +17,8 @@ piece_more (suc n) p s a b old new pos e h =
     ∙ ap (λ (xs : List (List ℕ)). xs ++ pieces_within n p b) h
     ∙ append_assoc old (a ∷ []) (pieces_within n p b)
     ∙ ap (λ (o : Option (List ℕ × List ℕ)). old ++ pieces_around (λ t. pieces_within n p t) s o) e
+
+-- no cut more
+pub piece_end : (n : ℕ) (p s : List ℕ) (done all : List (List ℕ)) → n ≡ 0 → done ++ pieces_within n p s ≡ all → done ++ last_piece s ≡ all
+piece_end zero p s done all e h = h
+piece_end (suc n) p s done all e h = absurd (omega arith)

@@ -9,16 +9,16 @@ use Rattle.lp_maker.specs.Texts.{after_front, cut_at, pieces, without_end}
 -- the patterns so far and the one that is read; how many brackets are open, and whether a string is
 pub record Parted : Type 0 where
   pub found : List (List ℕ)
-  pub now : List ℕ
+  pub piece : List ℕ
   pub depth : ℕ
   pub quoted : Bool
   pub escaped : Bool
 
 abbrev pub parted_of : Parting → Parted
-parted_of p = record { found = p.found.items; now = string_bytes p.now; depth = p.depth; quoted = p.quoted; escaped = p.escaped }
+parted_of p = record { found = p.found.items; piece = string_bytes p.piece; depth = p.depth; quoted = p.quoted; escaped = p.escaped }
 
 abbrev pub unparted : Parted
-unparted = record { found = []; now = []; depth = 0; quoted = false; escaped = false }
+unparted = record { found = []; piece = []; depth = 0; quoted = false; escaped = false }
 
 abbrev pub opens : ℕ → Bool
 opens c = c == 40 || (c == 91 || c == 123)
@@ -48,7 +48,7 @@ abbrev pub is_bar : Parted → ℕ → Bool
 is_bar p c = c == 124 && (p.depth == 0 && not p.quoted)
 
 abbrev pub put : Parted → ℕ → Parted
-put p c = if is_bar p c then record p { found = p.found ++ trim p.now ∷ []; now = [] } else record p { now = p.now ++ encode_utf8 c }
+put p c = if is_bar p c then record p { found = p.found ++ trim p.piece ∷ []; piece = [] } else record p { piece = p.piece ++ encode_utf8 c }
 
 -- a character more
 abbrev pub part_step : Parted → ℕ → Parted
@@ -59,7 +59,7 @@ parting p [] = p
 parting p (c ∷ cs) = parting (part_step p c) cs
 
 abbrev pub all_parts : Parted → List (List ℕ)
-all_parts p = p.found ++ trim p.now ∷ []
+all_parts p = p.found ++ trim p.piece ∷ []
 
 -- patterns that ` | ` joins outside brackets and quotes
 abbrev pub patterns_of : List ℕ → List (List ℕ)

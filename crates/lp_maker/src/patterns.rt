@@ -30,6 +30,7 @@ fn number_after(rest: Option<&str>) -> Option<usize>
 }
 
 /// A pattern's text with `_` for the names of captures.
+#[tactic(auto, using(crate::proofs::Parting::form_end))]
 pub fn form_of(alloc: Global, prefix: &str, pattern: &str) -> Result<Text, AllocError>
     ensures { IfOk result (λ t. t ≡ form_of prefix.now pattern.now) }
 {
@@ -76,6 +77,7 @@ fn after_digits(text: &str) -> &str
     &text[digit_count(text.as_bytes())..]
 }
 
+#[tactic(auto, using(crate::proofs::Parting::small_digit))]
 fn digit_count(text: &[u8]) -> usize
     ensures count { result ≡ digit_count text.now }
     ensures within { result ≤ length text.now }
@@ -94,7 +96,7 @@ fn digit_count(text: &[u8]) -> usize
 #[derive(Drop)]
 pub struct Parting {
     pub found: Vec<Text>,
-    pub now: String,
+    pub piece: String,
     pub depth: usize,
     pub quoted: bool,
     pub escaped: bool,
@@ -113,7 +115,7 @@ fn part_all(alloc: Global, text: &str) -> Result<Parting, AllocError>
 {
     let mut parting = Parting {
         found: Vec::new(alloc),
-        now: String::new(alloc),
+        piece: String::new(alloc),
         depth: 0,
         quoted: false,
         escaped: false,
@@ -127,7 +129,7 @@ fn part_all(alloc: Global, text: &str) -> Result<Parting, AllocError>
 fn all_parts(alloc: Global, parting: Parting) -> Result<Vec<Text>, AllocError>
     ensures { IfOk result (λ v. v.items ≡ all_parts (parted_of parting)) }
 {
-    let last = Text::from_str(alloc, parting.now.as_str().trim())?;
+    let last = Text::from_str(alloc, parting.piece.as_str().trim())?;
     let Parting { mut found, .. } = parting;
     found.push(last)?;
     Ok(found)
@@ -156,12 +158,12 @@ fn put(alloc: Global, parting: &mut Parting, c: char) -> Result<(), AllocError>
     ensures { OnOk result (parted_of parting.new ≡ put (parted_of parting.old) c) }
 {
     if is_bar(parting, c) {
-        let text = Text::from_str(alloc, parting.now.as_str().trim())?;
+        let text = Text::from_str(alloc, parting.piece.as_str().trim())?;
         parting.found.push(text)?;
-        parting.now = String::new(alloc);
+        parting.piece = String::new(alloc);
         Ok(())
     } else {
-        parting.now.push(c)?;
+        parting.piece.push(c)?;
         Ok(())
     }
 }

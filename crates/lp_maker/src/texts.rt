@@ -85,6 +85,7 @@ pub fn numbered(alloc: Global, name: &str, rest: &str) -> Result<Text, AllocErro
 }
 
 /// The pieces of a text between the places where a separator stands; the last one only if it isn't empty.
+#[tactic(auto, using(crate::proofs::Pieces::piece_end))]
 pub fn parted<'t>(alloc: Global, text: &'t str, separator: &str) -> Result<Vec<&'t str>, AllocError>
     ensures { IfOk result (λ v. map (λ piece. piece.now) v.items ≡ pieces separator.now text.now) }
 {
