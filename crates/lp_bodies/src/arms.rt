@@ -23,6 +23,7 @@ pub struct Arms {
 }
 
 impl Arms {
+    /// No names, no tests and no bodies.
     pub fn new(alloc: Global) -> Arms
         ensures { gathered result ≡ no_arms }
     {
@@ -63,6 +64,7 @@ impl Arms {
         }
     }
 
+    /// The next body.
     pub fn body(&mut self, body: Expr) -> Result<(), AllocError>
         ensures { OnOk result (gathered self.new ≡ with_body body (gathered self.old)) }
     {
