@@ -1,6 +1,11 @@
+pub mod Combining
+pub mod Copies
 pub mod Counting
 pub mod FirstNumbers
+pub mod Holes
 pub mod Leasts
 pub mod OrderSteps
+pub mod Putting
 pub mod RepeatSteps
 pub mod SideSteps
+pub mod Walking

@@ -1,8 +1,13 @@
 //! Lowering, and its refusals.
 
 ghost use Rattle.std.specs.Prelude.{◌≡◌, IfErr, IfOk, OnOk, map};
+ghost use Rattle.lp_repr.specs.TypeTrees.{clause_tree};
+ghost use Rattle.lp_lower.specs.ActionNumbers.{uses_error};
 ghost use Rattle.lp_lower.specs.Causes.{IsAccepted, IsCause};
+ghost use Rattle.lp_lower.specs.Expansion.{all_sources};
 ghost use Rattle.lp_lower.specs.Extents.{extent_of};
+ghost use Rattle.lp_lower.specs.Framing.{frame_of};
+ghost use Rattle.lp_lower.specs.Lowering.{IsLowering, IsTyping, parameter_tree};
 ghost use Rattle.lp_lower.specs.RightSides.{inline_sides};
 
 use crate::actions::actions;
@@ -49,6 +54,7 @@ impl From<AllocError> for LowerFault {
 pub fn lower(alloc: Global, grammar: &PlainGrammar) -> Result<Grammar, LowerFault>
     ensures refused { IfErr result (IsCause grammar.now) }
     ensures accepted { OnOk result (IsAccepted grammar.now) }
+    ensures lowered { IfOk result (IsLowering grammar.now) }
 {
     let names = Names::new(alloc, grammar)?;
     let extents = accept(alloc, &names)?;
@@ -79,7 +85,10 @@ fn accept(alloc: Global, names: &Names<'_>) -> Result<Vec<Extent>, LowerFault>
 }
 
 /// The lowering of a grammar.
-fn lowered(alloc: Global, names: &Names<'_>, extents: &[Extent]) -> Result<Grammar, AllocError> {
+fn lowered(alloc: Global, names: &Names<'_>, extents: &[Extent]) -> Result<Grammar, AllocError>
+    requires { extents.now ≡ map extent_of (inline_sides names.now.plain.now) }
+    ensures { IfOk result (IsLowering names.now.plain.now) }
+{
     let frame = make_frame(alloc, names.plain)?;
     let sources = make_sources(alloc, names, extents, frame)?;
     assembled(alloc, names, extents, frame, &sources)
@@ -92,7 +101,12 @@ fn assembled(
     extents: &[Extent],
     frame: Frame,
     sources: &Sources,
-) -> Result<Grammar, AllocError> {
+) -> Result<Grammar, AllocError>
+    requires counted { extents.now ≡ map extent_of (inline_sides names.now.plain.now) }
+    requires framed { frame ≡ frame_of names.now.plain.now }
+    requires replaced { sources.now ≡ all_sources names.now.plain.now }
+    ensures { IfOk result (IsLowering names.now.plain.now) }
+{
     let plain = names.plain;
     let all = terminal_names(alloc, plain, frame.uses_error)?;
     Ok(Grammar {
@@ -115,17 +129,24 @@ fn assembled(
 }
 
 /// Copies of parameters.
-fn copy_parameters(parameters: &Items<Parameter>) -> Result<Items<Parameter>, AllocError> {
+fn copy_parameters(parameters: &Items<Parameter>) -> Result<Items<Parameter>, AllocError>
+    ensures { IfOk result (λ p. map parameter_tree p ≡ map parameter_tree parameters.now) }
+{
     parameters.clone()
 }
 
 /// Copies of clauses.
-fn copy_clauses(clauses: &Items<WhereClause>) -> Result<Items<WhereClause>, AllocError> {
+fn copy_clauses(clauses: &Items<WhereClause>) -> Result<Items<WhereClause>, AllocError>
+    ensures { IfOk result (λ c. map clause_tree c ≡ map clause_tree clauses.now) }
+{
     clauses.clone()
 }
 
 /// The types of a grammar.
-fn types(alloc: Global, plain: &PlainGrammar, with_error: bool) -> Result<Types, AllocError> {
+fn types(alloc: Global, plain: &PlainGrammar, with_error: bool) -> Result<Types, AllocError>
+    requires { with_error ≡ uses_error plain.now }
+    ensures { IfOk result (IsTyping plain.now) }
+{
     Ok(Types {
         loc: given(&plain.location)?,
         token: plain.token.clone()?,

@@ -1,5 +1,10 @@
 //! The types of symbols.
 
+ghost use Rattle.std.specs.Prelude.{◌≡◌, ◌++◌, IfOk, map};
+ghost use Rattle.std.specs.Option.{option_map};
+ghost use Rattle.lp_repr.specs.TypeTrees.{type_tree, types_trees, nominal_type};
+ghost use Rattle.lp_lower.specs.TypeOf.{path_of, location_tree, error_tree, recovery_tree, holes_tree, rule_tree, terminal_tree, target_tree};
+
 use crate::names::{Names, Target};
 use crate::plain::PlainGrammar;
 use lp_repr::parse_tree::Path;
@@ -8,7 +13,9 @@ use lp_repr::text::{Items, Text};
 use std::alloc::{AllocError, Global};
 
 /// A path that isn't absolute, with these arguments.
-fn nominal(ids: Items<Text>, types: Vec<TypeRepr>) -> TypeRepr {
+fn nominal(ids: Items<Text>, types: Vec<TypeRepr>) -> TypeRepr
+    ensures { type_tree result ≡ nominal_type (path_of ids) (types_trees types.items) }
+{
     let path = Path {
         absolute: false,
         ids,
@@ -17,7 +24,9 @@ fn nominal(ids: Items<Text>, types: Vec<TypeRepr>) -> TypeRepr {
 }
 
 /// The type of locations, `()` by default.
-pub fn location_type(alloc: Global, plain: &PlainGrammar) -> Result<TypeRepr, AllocError> {
+pub fn location_type(alloc: Global, plain: &PlainGrammar) -> Result<TypeRepr, AllocError>
+    ensures { IfOk result (λ t. type_tree t ≡ location_tree plain.now) }
+{
     match &plain.location {
         Some(ty) => ty.clone(),
         None => Ok(TypeRepr::Tuple(Vec::new(alloc))),
@@ -25,7 +34,9 @@ pub fn location_type(alloc: Global, plain: &PlainGrammar) -> Result<TypeRepr, Al
 }
 
 /// The type of errors, `&'static str` by default.
-fn error_type(alloc: Global, plain: &PlainGrammar) -> Result<TypeRepr, AllocError> {
+fn error_type(alloc: Global, plain: &PlainGrammar) -> Result<TypeRepr, AllocError>
+    ensures { IfOk result (λ t. type_tree t ≡ error_tree plain.now) }
+{
     match &plain.error {
         Some(ty) => ty.clone(),
         None => {
@@ -40,14 +51,18 @@ fn error_type(alloc: Global, plain: &PlainGrammar) -> Result<TypeRepr, AllocErro
 }
 
 /// The prefix and a name.
-pub fn prefixed(alloc: Global, plain: &PlainGrammar, name: &str) -> Result<Text, AllocError> {
+pub fn prefixed(alloc: Global, plain: &PlainGrammar, name: &str) -> Result<Text, AllocError>
+    ensures { IfOk result (λ t. t ≡ plain.now.prefix ++ name.now) }
+{
     let mut text = String::from_str(alloc, plain.prefix.as_str())?;
     text.push_str(name)?;
     Ok(Text(text))
 }
 
 /// The type of the error terminal.
-pub fn recovery_type(alloc: Global, plain: &PlainGrammar) -> Result<TypeRepr, AllocError> {
+pub fn recovery_type(alloc: Global, plain: &PlainGrammar) -> Result<TypeRepr, AllocError>
+    ensures { IfOk result (λ t. type_tree t ≡ recovery_tree plain.now) }
+{
     let crate_name = prefixed(alloc, plain, "lalrpop_util")?;
     let type_name = Text::from_str(alloc, "ErrorRecovery")?;
     let location = location_type(alloc, plain)?;
@@ -58,7 +73,9 @@ pub fn recovery_type(alloc: Global, plain: &PlainGrammar) -> Result<TypeRepr, Al
 }
 
 /// Copies of these types.
-fn copy_types(alloc: Global, types: &[TypeRepr]) -> Result<Vec<TypeRepr>, AllocError> {
+fn copy_types(alloc: Global, types: &[TypeRepr]) -> Result<Vec<TypeRepr>, AllocError>
+    ensures { IfOk result (λ v. map type_tree v.items ≡ map type_tree types.now) }
+{
     let mut copies = Vec::new(alloc);
     for ty in types {
         copies.push(ty.clone()?)?;
@@ -72,7 +89,9 @@ pub fn holes_type(
     alloc: Global,
     token: &TypeRepr,
     holes: &[TypeRepr],
-) -> Result<TypeRepr, AllocError> {
+) -> Result<TypeRepr, AllocError>
+    ensures { IfOk result (λ t. type_tree t ≡ holes_tree token.now holes.now) }
+{
     if holes.is_empty() {
         return token.clone();
     }
@@ -87,7 +106,9 @@ pub fn target_type(
     alloc: Global,
     names: &Names<'_>,
     target: Option<Target>,
-) -> Result<TypeRepr, AllocError> {
+) -> Result<TypeRepr, AllocError>
+    ensures { IfOk result (λ t. type_tree t ≡ target_tree names.now.plain.now target) }
+{
     match target {
         None => names.plain.token.clone(),
         Some(Target::Rule(number)) => rule_type(names, number),
@@ -99,7 +120,9 @@ pub fn target_type(
 }
 
 /// The type of the rule of this number.
-fn rule_type(names: &Names<'_>, number: usize) -> Result<TypeRepr, AllocError> {
+fn rule_type(names: &Names<'_>, number: usize) -> Result<TypeRepr, AllocError>
+    ensures { IfOk result (λ t. type_tree t ≡ rule_tree names.now.plain.now number) }
+{
     match names.rule(number) {
         None => names.plain.token.clone(),
         Some(rule) => rule.ty.clone(),
@@ -107,7 +130,13 @@ fn rule_type(names: &Names<'_>, number: usize) -> Result<TypeRepr, AllocError> {
 }
 
 /// The type of the terminal of this number.
-fn terminal_type(alloc: Global, names: &Names<'_>, number: usize) -> Result<TypeRepr, AllocError> {
+fn terminal_type(
+    alloc: Global,
+    names: &Names<'_>,
+    number: usize,
+) -> Result<TypeRepr, AllocError>
+    ensures { IfOk result (λ t. type_tree t ≡ terminal_tree names.now.plain.now number) }
+{
     match names.terminal(number) {
         None => names.plain.token.clone(),
         Some(terminal) => {
@@ -117,7 +146,9 @@ fn terminal_type(alloc: Global, names: &Names<'_>, number: usize) -> Result<Type
 }
 
 /// A type that may be given.
-pub fn given(ty: &Option<TypeRepr>) -> Result<Option<TypeRepr>, AllocError> {
+pub fn given(ty: &Option<TypeRepr>) -> Result<Option<TypeRepr>, AllocError>
+    ensures { IfOk result (λ o. option_map type_tree o ≡ option_map type_tree ty.now) }
+{
     match ty {
         None => Ok(None),
         Some(ty) => Ok(Some(ty.clone()?)),
