@@ -52,7 +52,7 @@ expanded_from n (c ∷ cs) = record { action = n; fallible = c.fallible; symbols
 
 -- an alternative whose user action has this number: an inline per combination where something is replaced, else the user action itself
 abbrev pub expanded : PlainGrammar → Sources → ℕ → PlainAlternative → List Expanded
-expanded g s user a = expanded_from (if is_replaced g a then user + 1 else user) (combined g s a)
+expanded g s user a = expanded_from (user + (if is_replaced g a then 1 else 0)) (combined g s a)
 
 -- these alternatives, whose actions begin with this number
 abbrev pub expanded_all : PlainGrammar → Sources → ℕ → List PlainAlternative → List Expanded

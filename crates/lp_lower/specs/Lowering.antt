@@ -50,17 +50,20 @@ terminal_types g = map (λ t. (t.name, holes_tree g.token t.pattern.holes)) g.co
 abbrev pub nonterminal_types : PlainGrammar → List (NonterminalString × TypeTree)
 nonterminal_types g = map (λ r. (start_name g r, type_tree r.ty)) (public_rules g) ++ map (λ r. (r.name, type_tree r.ty)) (kept_rules g)
 
--- an entry, its type as a tree
-abbrev pub typed : {K : Type 0} → K × TypeRepr → K × TypeTree
-typed e = (e.0, type_tree e.1)
+-- an entry, its type or its pattern as a tree
+abbrev pub type_entry : {K : Type 0} → K × TypeRepr → K × TypeTree
+type_entry e = (e.0, type_tree e.1)
+
+abbrev pub pattern_entry : TerminalString × TokenPattern → TerminalString × (List (List ℕ) × TypeTrees)
+pattern_entry e = (e.0, pattern_tree e.1)
 
 -- types are compared as trees, without the pointers to their parts
 pub record IsTyping (g : PlainGrammar) (t : Types) : Type 0 where
   pub location : option_map type_tree t.loc ≡ option_map type_tree g.location
   pub token : type_tree t.token ≡ type_tree g.token
   pub error : option_map type_tree t.error ≡ option_map type_tree g.error
-  pub terminals : map typed t.terminals.entries ≡ put_all terminal_cmp [] (terminal_types g)
-  pub nonterminals : map typed t.nonterminals.entries ≡ put_all nonterminal_cmp [] (nonterminal_types g)
+  pub terminals : map type_entry t.terminals.entries ≡ put_all terminal_cmp [] (terminal_types g)
+  pub nonterminals : map type_entry t.nonterminals.entries ≡ put_all nonterminal_cmp [] (nonterminal_types g)
 
 pub record IsLowering (g : PlainGrammar) (l : Grammar) : Type 0 where
   pub prefix : l.prefix ≡ g.prefix
@@ -75,6 +78,6 @@ pub record IsLowering (g : PlainGrammar) (l : Grammar) : Type 0 where
   pub actions : map action_tree l.action_fn_defns ≡ actions_of g
   pub terminals : l.terminals.all ≡ terminal_names g
   pub nonterminals : l.nonterminals.entries ≡ put_all nonterminal_cmp [] (nonterminal_entries g)
-  pub conversions : map (λ e. (e.0, pattern_tree e.1)) l.conversions.entries ≡ put_all terminal_cmp [] (pattern_entries g)
+  pub conversions : map pattern_entry l.conversions.entries ≡ put_all terminal_cmp [] (pattern_entries g)
   pub types : IsTyping g l.types
   pub attributes : l.module_attributes ≡ g.attributes

@@ -17,9 +17,13 @@ path_of names = record { absolute = false; ids = names }
 abbrev pub location_tree : PlainGrammar → TypeTree
 location_tree g = option_map_or type_tree g.location (tuple_type end)
 
+-- `&'static str`
+abbrev pub static_str_tree : TypeTree
+static_str_tree = reference_type (Some (codes "'static")) false (nominal_type (path_of (codes "str" ∷ [])) end)
+
 -- errors, `&'static str` by default
 abbrev pub error_tree : PlainGrammar → TypeTree
-error_tree g = option_map_or type_tree g.error (reference_type (Some (codes "'static")) false (nominal_type (path_of (codes "str" ∷ [])) end))
+error_tree g = option_map_or type_tree g.error static_str_tree
 
 -- the error terminal: `~lalrpop_util::ErrorRecovery<L, T, E>`
 abbrev pub recovery_tree : PlainGrammar → TypeTree

@@ -1,11 +1,12 @@
 //! The combinations of an alternative: `@L`, `@R` and inline rules are replaced by each of their
 //! expanded alternatives, the leftmost slowest.
 
-ghost use Rattle.std.specs.Prelude.{◌≡◌, ◌<◌, ◌++◌, IfOk, OnOk, Some, length, map, slice_get};
+ghost use Rattle.std.specs.Prelude.{◌≡◌, ◌<◌, ◌++◌, ◌||◌, IfOk, OnOk, Some, length, map, slice_get};
 ghost use Rattle.lp_lower.specs.Choices.{choices};
 ghost use Rattle.lp_lower.specs.Extents.{capped};
 ghost use Rattle.lp_lower.specs.Pieces.{Piece, itself, chosen, pieces_of, combination_of, with_piece};
 
+use crate::copies::{copy_symbol, copy_symbols};
 use crate::lists::{empty, push};
 use lp_repr::repr::{InlinedSymbol, Symbol};
 use lp_repr::text::Items;
@@ -94,16 +95,19 @@ fn combination_at(
     requires within { place < total }
     ensures { IfOk result (λ c. slice_get (map (combination_of fallible) (choices (map pieces_of parts.now))) place ≡ Some c) }
 {
+    let inlined = empty(alloc);
+    let symbols = empty(alloc);
     let mut combination = Combination {
-        inlined: empty(alloc),
+        inlined,
         fallible,
-        symbols: empty(alloc),
+        symbols,
     };
     let mut count = total;
     let mut left = place;
     for part in parts {
         count = count / part.piece_count();
-        combination.add_piece(part, left / count)?;
+        let number = left / count;
+        combination.add_piece(alloc, part, number)?;
         left = left % count;
     }
     Ok(combination)
@@ -123,13 +127,24 @@ impl Part<'_> {
 
 impl Combination {
     /// Adds the piece of this number.
-    fn add_piece(&mut self, part: &Part<'_>, number: usize) -> Result<(), AllocError>
+    fn add_piece(
+        &mut self,
+        alloc: Global,
+        part: &Part<'_>,
+        number: usize,
+    ) -> Result<(), AllocError>
         requires { number < length (pieces_of part.now) }
         ensures { OnOk result ((piece : Piece) → slice_get (pieces_of part.now) number ≡ Some piece → self.new ≡ with_piece self.old piece) }
     {
         match part {
-            Part::Itself(symbol) => self.add_symbol(symbol),
-            Part::Options(options) => self.add_expanded(&options[number]),
+            Part::Itself(symbol) => {
+                self.add_symbol(symbol)?;
+                Ok(())
+            }
+            Part::Options(options) => {
+                self.add_expanded(alloc, &options[number])?;
+                Ok(())
+            }
         }
     }
 
@@ -137,28 +152,40 @@ impl Combination {
     fn add_symbol(&mut self, symbol: &Symbol) -> Result<(), AllocError>
         ensures { OnOk result (self.new ≡ with_piece self.old (itself symbol.now)) }
     {
-        push(&mut self.inlined, InlinedSymbol::Original(symbol.clone()?))?;
-        push(&mut self.symbols, symbol.clone()?)
+        let original = copy_symbol(symbol)?;
+        let copy = copy_symbol(symbol)?;
+        push(&mut self.inlined, InlinedSymbol::Original(original))?;
+        push(&mut self.symbols, copy)?;
+        Ok(())
     }
 
     /// Adds an expanded alternative.
-    fn add_expanded(&mut self, expanded: &Expanded) -> Result<(), AllocError>
+    fn add_expanded(&mut self, alloc: Global, expanded: &Expanded) -> Result<(), AllocError>
         ensures { OnOk result (self.new ≡ with_piece self.old (chosen expanded.now)) }
     {
-        let symbols = expanded.symbols.clone()?;
-        let inlined = InlinedSymbol::Inlined(expanded.action, symbols);
+        let inner = copy_symbols(alloc, &expanded.symbols)?;
+        let inlined = InlinedSymbol::Inlined(expanded.action, inner);
+        let fallible = one_fails(self.fallible, expanded.fallible);
         push(&mut self.inlined, inlined)?;
-        self.fallible = self.fallible || expanded.fallible;
-        push_symbols(expanded.symbols.as_slice(), &mut self.symbols)
+        push_symbols(&expanded.symbols, &mut self.symbols)?;
+        self.fallible = fallible;
+        Ok(())
     }
 }
 
+/// Whether one of two actions can fail.
+fn one_fails(first: bool, second: bool) -> bool
+    ensures { result ≡ (first || second) }
+{
+    first || second
+}
+
 /// Appends copies of these symbols.
-fn push_symbols(symbols: &[Symbol], all: &mut Items<Symbol>) -> Result<(), AllocError>
+fn push_symbols(symbols: &Items<Symbol>, all: &mut Items<Symbol>) -> Result<(), AllocError>
     ensures { OnOk result (all.new ≡ all.old ++ symbols.now) }
 {
-    for symbol in symbols {
-        push(all, symbol.clone()?)?;
+    for symbol in symbols.as_slice() {
+        push(all, copy_symbol(symbol)?)?;
     }
     Ok(())
 }

@@ -11,8 +11,9 @@ ghost use Rattle.lp_lower.specs.RightSides.{inline_sides, right_sides};
 ghost use Rattle.lp_lower.specs.declared.names.Target.TheVariants.{Rule};
 
 use crate::combine::{Combination, Expanded, Part, combinations};
+use crate::copies::{copy_nonterminal, copy_terminal};
 use crate::extents::{Extent, alternative_extent};
-use crate::frame::{Frame, sum};
+use crate::frame::{Frame, after, sum};
 use crate::lists::{empty, push};
 use crate::names::{Names, Target};
 use crate::plain::{PlainAlternative, PlainKind, PlainRule};
@@ -52,8 +53,8 @@ fn part<'s>(
 {
     match target {
         None => Ok(Part::Options(&[])),
-        Some(Target::Rule(number)) => rule_part(names, sources, number),
-        Some(Target::Terminal(number)) => terminal_part(names, number),
+        Some(Target::Rule(number)) => Ok(rule_part(names, sources, number)?),
+        Some(Target::Terminal(number)) => Ok(terminal_part(names, number)?),
         Some(Target::Lookahead) => Ok(Part::Options(sources.lookahead.as_slice())),
         Some(Target::Lookbehind) => Ok(Part::Options(sources.lookbehind.as_slice())),
         Some(Target::Error) => Ok(Part::Itself(Symbol::Terminal(TerminalString::Error))),
@@ -70,7 +71,7 @@ fn rule_part<'s>(
 {
     match names.rule(number) {
         None => Ok(Part::Options(&[])),
-        Some(rule) => one_rule_part(rule, sources.inline(number)),
+        Some(rule) => Ok(one_rule_part(rule, sources.inline(number))?),
     }
 }
 
@@ -81,7 +82,9 @@ fn one_rule_part<'s>(rule: &PlainRule, expanded: &'s [Expanded]) -> Result<Part<
     if rule.inline {
         Ok(Part::Options(expanded))
     } else {
-        Ok(Part::Itself(Symbol::Nonterminal(rule.name.clone()?)))
+        Ok(Part::Itself(Symbol::Nonterminal(copy_nonterminal(
+            &rule.name,
+        )?)))
     }
 }
 
@@ -91,7 +94,9 @@ fn terminal_part<'s>(names: &Names<'_>, number: usize) -> Result<Part<'s>, Alloc
 {
     match names.terminal(number) {
         None => Ok(Part::Options(&[])),
-        Some(terminal) => Ok(Part::Itself(Symbol::Terminal(terminal.name.clone()?))),
+        Some(terminal) => Ok(Part::Itself(Symbol::Terminal(copy_terminal(
+            &terminal.name,
+        )?))),
     }
 }
 
@@ -106,13 +111,14 @@ fn parts<'s>(
 {
     let mut parts = Vec::new(alloc);
     for symbol in alternative.symbols.as_slice() {
-        parts.push(part(names, sources, names.target(&symbol.kind))?)?;
+        let target = names.target(&symbol.kind);
+        let part = part(names, sources, target)?;
+        parts.push(part)?;
     }
     Ok(parts)
 }
 
 /// The combinations of an alternative.
-#[tactic(auto, unfolding(crate::specs::Expansion::combined))]
 pub fn combined(
     alloc: Global,
     names: &Names<'_>,
@@ -122,7 +128,11 @@ pub fn combined(
     ensures { IfOk result (λ v. v.items ≡ combined names.now.plain.now sources.now alternative.now) }
 {
     let parts = parts(alloc, names, sources, alternative)?;
-    combinations(alloc, alternative.fallible, parts.as_slice())
+    Ok(combinations(
+        alloc,
+        alternative.fallible,
+        parts.as_slice(),
+    )?)
 }
 
 /// Whether something in an alternative is replaced.
@@ -162,7 +172,8 @@ pub fn action_count(
     ensures { IfOk result (λ n. n ≡ action_count names.now.plain.now alternative.now) }
 {
     if is_replaced(names, alternative) {
-        sum(1, side_count(names, extents, alternative)?)
+        let sides = side_count(names, extents, alternative)?;
+        Ok(sum(1, sides)?)
     } else {
         Ok(1)
     }
@@ -170,7 +181,6 @@ pub fn action_count(
 
 /// How many right sides an alternative has. More than a usize can count are more than memory can
 /// hold.
-#[tactic(auto, unfolding(crate::specs::Extents::extent_of))]
 fn side_count(
     names: &Names<'_>,
     extents: &[Extent],
@@ -179,11 +189,11 @@ fn side_count(
     requires { extents.now ≡ map extent_of (inline_sides names.now.plain.now) }
     ensures { IfOk result (λ n. n ≡ length (right_sides names.now.plain.now (inline_sides names.now.plain.now) alternative.now)) }
 {
-    let count = alternative_extent(names, extents, alternative).alternatives;
-    if count == usize::MAX {
+    let extent = alternative_extent(names, extents, alternative);
+    if extent.alternatives == usize::MAX {
         return Err(AllocError);
     }
-    Ok(count)
+    Ok(extent.alternatives)
 }
 
 /// How many actions these alternatives have.
@@ -215,12 +225,9 @@ fn push_expanded(
     ensures { OnOk result (all.new ≡ all.old ++ expanded names.now.plain.now sources.now user alternative.now) }
 {
     let combinations = combined(alloc, names, sources, alternative)?;
-    let first = if is_replaced(names, alternative) {
-        sum(user, 1)?
-    } else {
-        user
-    };
-    push_numbered(first, combinations, all)
+    let first = after(user, is_replaced(names, alternative))?;
+    push_numbered(first, combinations, all)?;
+    Ok(())
 }
 
 /// Adds these combinations as expanded alternatives, whose actions begin with this number.
@@ -283,10 +290,13 @@ pub fn make_sources(
     requires framed { frame ≡ frame_of names.now.plain.now }
     ensures { IfOk result (λ s. s ≡ all_sources names.now.plain.now) }
 {
+    let lookahead = lookaround(alloc, frame.lookahead)?;
+    let lookbehind = lookaround(alloc, frame.lookbehind)?;
+    let inlines = empty(alloc);
     let mut sources = Sources {
-        lookahead: lookaround(alloc, frame.lookahead)?,
-        lookbehind: lookaround(alloc, frame.lookbehind)?,
-        inlines: empty(alloc),
+        lookahead,
+        lookbehind,
+        inlines,
     };
     let mut first = frame.first;
     for rule in names.plain.rules.as_slice() {
@@ -303,10 +313,11 @@ fn lookaround(alloc: Global, action: usize) -> Result<Items<Expanded>, AllocErro
     ensures { IfOk result (λ e. e ≡ lookaround action ∷ []) }
 {
     let mut one = empty(alloc);
+    let symbols = empty(alloc);
     let expanded = Expanded {
         action,
         fallible: false,
-        symbols: empty(alloc),
+        symbols,
     };
     push(&mut one, expanded)?;
     Ok(one)
@@ -326,14 +337,15 @@ fn inline_expanded(
     ensures { IfOk result (λ e. e ≡ (if rule.now.inline then expanded_all names.now.plain.now sources.now first rule.now.alternatives else [])) }
 {
     if rule.inline {
-        expanded_all(
+        let alternatives = rule.alternatives.as_slice();
+        Ok(expanded_all(
             alloc,
             names,
             extents,
             sources,
             first,
-            rule.alternatives.as_slice(),
-        )
+            alternatives,
+        )?)
     } else {
         Ok(empty(alloc))
     }

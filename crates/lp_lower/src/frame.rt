@@ -27,18 +27,21 @@ pub struct Frame {
 pub fn make_frame(alloc: Global, plain: &PlainGrammar) -> Result<Frame, AllocError>
     ensures { IfOk result (λ f. f ≡ frame_of plain.now) }
 {
-    let symbols = all_symbols(alloc, plain)?;
-    let uses_lookahead = uses_lookahead(symbols.as_slice());
-    let uses_lookbehind = uses_lookbehind(symbols.as_slice());
+    let all = all_symbols(alloc, plain)?;
+    let symbols = all.as_slice();
+    let ahead = uses_lookahead(symbols);
+    let behind = uses_lookbehind(symbols);
+    let error = uses_error(symbols);
     let lookahead = public_count(plain.rules.as_slice())?;
-    let lookbehind = after(lookahead, uses_lookahead)?;
+    let lookbehind = after(lookahead, ahead)?;
+    let first = after(lookbehind, behind)?;
     Ok(Frame {
-        uses_lookahead,
-        uses_lookbehind,
-        uses_error: uses_error(symbols.as_slice()),
+        uses_lookahead: ahead,
+        uses_lookbehind: behind,
+        uses_error: error,
         lookahead,
         lookbehind,
-        first: after(lookbehind, uses_lookbehind)?,
+        first,
     })
 }
 
@@ -46,14 +49,21 @@ pub fn make_frame(alloc: Global, plain: &PlainGrammar) -> Result<Frame, AllocErr
 pub fn sum(first: usize, second: usize) -> Result<usize, AllocError>
     ensures { IfOk result (λ n. n ≡ first + second) }
 {
-    first.checked_add(second).ok_or(AllocError)
+    match first.checked_add(second) {
+        None => Err(AllocError),
+        Some(sum) => Ok(sum),
+    }
 }
 
 /// The number after this one where an action stands there.
 pub fn after(number: usize, used: bool) -> Result<usize, AllocError>
     ensures { IfOk result (λ n. n ≡ number + (if used then 1 else 0)) }
 {
-    if used { sum(number, 1) } else { Ok(number) }
+    if used {
+        Ok(sum(number, 1)?)
+    } else {
+        Ok(number)
+    }
 }
 
 /// How many rules are public.
@@ -62,9 +72,7 @@ fn public_count(rules: &[PlainRule]) -> Result<usize, AllocError>
 {
     let mut count: usize = 0;
     for rule in rules {
-        if rule.public {
-            count = sum(count, 1)?;
-        }
+        count = after(count, rule.public)?;
     }
     Ok(count)
 }
