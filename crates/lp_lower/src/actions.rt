@@ -1,9 +1,10 @@
 //! The actions of the lowered grammar, in their order.
 
-ghost use Rattle.std.specs.Prelude.{◌≡◌, ◌++◌, IfOk, OnOk, map, filter};
+ghost use Rattle.std.specs.Prelude.{◌≡◌, ◌++◌, [], ◌∷◌, if◌then◌else◌, IfOk, OnOk, map, filter};
 ghost use Rattle.lp_repr.specs.TypeTrees.{type_tree};
 ghost use Rattle.lp_lower.specs.Actions.{action_tree, start_action, lookaround_action, lookaround_actions, user_action, inline_action, alternative_actions, rule_actions, actions_from, actions_of};
-ghost use Rattle.lp_lower.specs.Expansion.{all_sources};
+ghost use Rattle.lp_lower.specs.ActionNumbers.{is_replaced};
+ghost use Rattle.lp_lower.specs.Expansion.{all_sources, combined};
 ghost use Rattle.lp_lower.specs.Extents.{extent_of};
 ghost use Rattle.lp_lower.specs.Framing.{frame_of};
 ghost use Rattle.lp_lower.specs.Naming.{target};
@@ -55,9 +56,22 @@ fn push_starts(
     ensures { OnOk result (map action_tree all.new ≡ map action_tree all.old ++ map (start_action plain.now) (filter (λ r. r.public) plain.now.rules)) }
 {
     for rule in plain.rules.as_slice() {
-        if rule.public {
-            push(all, start_action(alloc, plain, rule)?)?;
-        }
+        push_start(alloc, plain, rule, all)?;
+    }
+    Ok(())
+}
+
+/// Adds the action of the start of a public rule.
+fn push_start(
+    alloc: Global,
+    plain: &PlainGrammar,
+    rule: &PlainRule,
+    all: &mut Items<ActionFnDefn>,
+) -> Result<(), AllocError>
+    ensures { OnOk result (map action_tree all.new ≡ map action_tree all.old ++ (if rule.now.public then start_action plain.now rule.now ∷ [] else [])) }
+{
+    if rule.public {
+        push(all, start_action(alloc, plain, rule)?)?;
     }
     Ok(())
 }
@@ -71,15 +85,19 @@ fn start_action(
     ensures { IfOk result (λ a. action_tree a ≡ start_action plain.now rule.now) }
 {
     let name = prefixed(alloc, plain, "0")?;
-    let kind = ActionFnDefnKind::User {
-        arg_patterns: Items(vec![in alloc; name]?),
-        arg_types: Items(vec![in alloc; rule.ty.clone()?]?),
-        code: prefixed(alloc, plain, "0")?,
-    };
+    let patterns = vec![in alloc; name]?;
+    let ty = rule.ty.clone()?;
+    let types = vec![in alloc; ty]?;
+    let code = prefixed(alloc, plain, "0")?;
+    let ret_type = rule.ty.clone()?;
     Ok(ActionFnDefn {
         fallible: false,
-        ret_type: rule.ty.clone()?,
-        kind,
+        ret_type,
+        kind: ActionFnDefnKind::User {
+            arg_patterns: Items(patterns),
+            arg_types: Items(types),
+            code,
+        },
     })
 }
 
@@ -107,9 +125,10 @@ fn lookaround_action(
 ) -> Result<ActionFnDefn, AllocError>
     ensures { IfOk result (λ a. action_tree a ≡ lookaround_action plain.now which) }
 {
+    let ret_type = location_type(alloc, plain)?;
     Ok(ActionFnDefn {
         fallible: false,
-        ret_type: location_type(alloc, plain)?,
+        ret_type,
         kind: ActionFnDefnKind::Lookaround(which),
     })
 }
@@ -170,6 +189,23 @@ fn push_alternative(
     ensures { OnOk result (map action_tree all.new ≡ map action_tree all.old ++ alternative_actions names.now.plain.now sources.now rule.now user alternative.now) }
 {
     push(all, user_action(alloc, names, rule, alternative)?)?;
+    push_replaced(alloc, names, sources, rule, user, alternative, all)?;
+    Ok(())
+}
+
+/// Adds the inlines of an alternative, whose user action has this number, where something in it is
+/// replaced.
+fn push_replaced(
+    alloc: Global,
+    names: &Names<'_>,
+    sources: &Sources,
+    rule: &PlainRule,
+    user: usize,
+    alternative: &PlainAlternative,
+    all: &mut Items<ActionFnDefn>,
+) -> Result<(), AllocError>
+    ensures { OnOk result (map action_tree all.new ≡ map action_tree all.old ++ (if is_replaced names.now.plain.now alternative.now then map (inline_action rule.now user) (combined names.now.plain.now sources.now alternative.now) else [])) }
+{
     if is_replaced(names, alternative) {
         let combinations = combined(alloc, names, sources, alternative)?;
         push_inlines(rule, user, combinations, all)?;
@@ -186,15 +222,18 @@ fn user_action(
 ) -> Result<ActionFnDefn, AllocError>
     ensures { IfOk result (λ a. action_tree a ≡ user_action names.now.plain.now rule.now alternative.now) }
 {
-    let kind = ActionFnDefnKind::User {
-        arg_patterns: argument_names(alloc, alternative)?,
-        arg_types: argument_types(alloc, names, alternative)?,
-        code: alternative.code.clone()?,
-    };
+    let arg_patterns = argument_names(alloc, alternative)?;
+    let arg_types = argument_types(alloc, names, alternative)?;
+    let code = alternative.code.clone()?;
+    let ret_type = rule.ty.clone()?;
     Ok(ActionFnDefn {
         fallible: alternative.fallible,
-        ret_type: rule.ty.clone()?,
-        kind,
+        ret_type,
+        kind: ActionFnDefnKind::User {
+            arg_patterns,
+            arg_types,
+            code,
+        },
     })
 }
 
@@ -223,7 +262,8 @@ fn argument_types(
     let mut types = empty(alloc);
     for symbol in alternative.symbols.as_slice() {
         let target = names.target(&symbol.kind);
-        push(&mut types, target_type(alloc, names, target)?)?;
+        let ty = target_type(alloc, names, target)?;
+        push(&mut types, ty)?;
     }
     Ok(types)
 }
@@ -256,9 +296,10 @@ fn inline_action(
         fallible,
         symbols: _,
     } = combination;
+    let ret_type = rule.ty.clone()?;
     Ok(ActionFnDefn {
         fallible,
-        ret_type: rule.ty.clone()?,
+        ret_type,
         kind: ActionFnDefnKind::Inline {
             action: user,
             symbols: inlined,

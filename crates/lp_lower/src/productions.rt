@@ -9,6 +9,7 @@ ghost use Rattle.lp_lower.specs.Productions.{put_all, start_name, visibility_of,
 ghost use Rattle.lp_lower.specs.RightSides.{inline_sides};
 
 use crate::combine::Expanded;
+use crate::copies::copy_nonterminal;
 use crate::expand::{Sources, actions_in, expanded_all};
 use crate::extents::Extent;
 use crate::frame::{Frame, after, sum};
@@ -69,7 +70,8 @@ fn put_start(
 {
     if rule.public {
         let name = start_name(alloc, plain, rule)?;
-        all.insert(name, start_data(alloc, plain, action, rule)?)?;
+        let data = start_data(alloc, plain, action, rule)?;
+        all.insert(name, data)?;
     }
     Ok(())
 }
@@ -82,7 +84,8 @@ pub fn start_name(
 ) -> Result<NonterminalString, AllocError>
     ensures { IfOk result (λ n. n ≡ start_name plain.now rule.now) }
 {
-    Ok(NonterminalString(prefixed(alloc, plain, rule.name.0.as_str())?))
+    let name = prefixed(alloc, plain, rule.name.0.as_str())?;
+    Ok(NonterminalString(name))
 }
 
 /// A start, whose action has this number.
@@ -94,14 +97,18 @@ fn start_data(
 ) -> Result<NonterminalData, AllocError>
     ensures { IfOk result (λ d. d ≡ start_data plain.now action rule.now) }
 {
+    let nonterminal = start_name(alloc, plain, rule)?;
+    let name = copy_nonterminal(&rule.name)?;
+    let symbols = vec![in alloc; Symbol::Nonterminal(name)]?;
     let production = Production {
-        nonterminal: start_name(alloc, plain, rule)?,
-        symbols: Items(vec![in alloc; Symbol::Nonterminal(rule.name.clone()?)]?),
+        nonterminal,
+        symbols: Items(symbols),
         action,
     };
+    let productions = vec![in alloc; production]?;
     Ok(NonterminalData {
         visibility: visibility_of(rule),
-        productions: Items(vec![in alloc; production]?),
+        productions: Items(productions),
     })
 }
 
@@ -149,10 +156,12 @@ fn put_rule(
     requires { extents.now ≡ map extent_of (inline_sides names.now.plain.now) }
     ensures { OnOk result (all.new.entries ≡ put_all nonterminal_cmp all.old.entries (rule_entry names.now.plain.now sources.now first rule.now)) }
 {
-    if !rule.inline {
-        let data = rule_data(alloc, names, extents, sources, first, rule)?;
-        all.insert(rule.name.clone()?, data)?;
+    if rule.inline {
+        return Ok(());
     }
+    let name = copy_nonterminal(&rule.name)?;
+    let data = rule_data(alloc, names, extents, sources, first, rule)?;
+    all.insert(name, data)?;
     Ok(())
 }
 
@@ -170,9 +179,10 @@ fn rule_data(
 {
     let alternatives = rule.alternatives.as_slice();
     let expanded = expanded_all(alloc, names, extents, sources, first, alternatives)?;
+    let productions = productions(alloc, &rule.name, expanded)?;
     Ok(NonterminalData {
         visibility: visibility_of(rule),
-        productions: productions(alloc, &rule.name, expanded)?,
+        productions,
     })
 }
 
@@ -187,7 +197,8 @@ fn productions(
     let Items(expanded) = expanded;
     let mut productions = empty(alloc);
     for one in expanded {
-        push(&mut productions, production_of(name, one)?)?;
+        let production = production_of(name, one)?;
+        push(&mut productions, production)?;
     }
     Ok(productions)
 }
@@ -200,8 +211,9 @@ fn production_of(name: &NonterminalString, expanded: Expanded) -> Result<Product
         fallible: _,
         symbols,
     } = expanded;
+    let nonterminal = copy_nonterminal(name)?;
     Ok(Production {
-        nonterminal: name.clone()?,
+        nonterminal,
         symbols,
         action,
     })

@@ -4,11 +4,14 @@ ghost use Rattle.std.specs.Prelude.{◌≡◌, ◌++◌, IfOk, OnOk, [], if◌th
 ghost use Rattle.std.specs.BTreeMap.{insert_entry};
 ghost use Rattle.lp_repr.specs.NameOrder.{nonterminal_cmp, terminal_cmp};
 ghost use Rattle.lp_repr.specs.TypeTrees.{type_tree};
-ghost use Rattle.lp_lower.specs.ActionNumbers.{uses_error};
-ghost use Rattle.lp_lower.specs.TypeOf.{holes_tree};
-ghost use Rattle.lp_lower.specs.Lowering.{kept_rules, nonterminal_types, pattern_entries, pattern_tree, public_names, public_rules, terminal_names, terminal_types, typed};
+ghost use Rattle.lp_repr.specs.declared.repr.TerminalString.TheVariants.{Error};
+ghost use Rattle.lp_lower.specs.Framing.{frame_of};
+ghost use Rattle.lp_lower.specs.TypeOf.{holes_tree, recovery_tree};
+ghost use Rattle.lp_lower.specs.Lowering.{kept_rules, nonterminal_types, pattern_entries, pattern_entry, pattern_tree, public_names, public_rules, terminal_names, terminal_types, type_entry};
 ghost use Rattle.lp_lower.specs.Productions.{put_all, start_name};
 
+use crate::copies::{copy_nonterminal, copy_pattern, copy_terminal};
+use crate::frame::Frame;
 use crate::lists::{empty, push};
 use crate::plain::{PlainGrammar, PlainRule, PlainTerminal};
 use crate::productions::start_name;
@@ -42,7 +45,9 @@ fn put_public_name(
     ensures { OnOk result (names.new.entries ≡ (if rule.now.public then insert_entry nonterminal_cmp names.old.entries rule.now.name (start_name plain.now rule.now) else names.old.entries)) }
 {
     if rule.public {
-        names.insert(rule.name.clone()?, start_name(alloc, plain, rule)?)?;
+        let name = copy_nonterminal(&rule.name)?;
+        let start = start_name(alloc, plain, rule)?;
+        names.insert(name, start)?;
     }
     Ok(())
 }
@@ -51,13 +56,13 @@ fn put_public_name(
 pub fn terminal_names(
     alloc: Global,
     plain: &PlainGrammar,
-    with_error: bool,
+    frame: Frame,
 ) -> Result<Items<TerminalString>, AllocError>
-    requires { with_error ≡ uses_error plain.now }
+    requires { frame ≡ frame_of plain.now }
     ensures { IfOk result (λ t. t ≡ terminal_names plain.now) }
 {
     let mut names = declared_names(alloc, plain.conversions.as_slice())?;
-    if with_error {
+    if frame.uses_error {
         push(&mut names, TerminalString::Error)?;
     }
     Ok(names)
@@ -72,7 +77,7 @@ fn declared_names(
 {
     let mut names = empty(alloc);
     for terminal in terminals {
-        push(&mut names, terminal.name.clone()?)?;
+        push(&mut names, copy_terminal(&terminal.name)?)?;
     }
     Ok(names)
 }
@@ -82,48 +87,58 @@ pub fn patterns(
     alloc: Global,
     plain: &PlainGrammar,
 ) -> Result<BTreeMap<TerminalString, TokenPattern>, AllocError>
-    ensures { IfOk result (λ m. map (λ e. (e.0, pattern_tree e.1)) m.entries ≡ put_all terminal_cmp [] (pattern_entries plain.now)) }
+    ensures { IfOk result (λ m. map pattern_entry m.entries ≡ put_all terminal_cmp [] (pattern_entries plain.now)) }
 {
     let mut patterns = BTreeMap::new(alloc);
     for terminal in plain.conversions.as_slice() {
-        put_pattern(terminal, &mut patterns)?;
+        put_pattern(alloc, terminal, &mut patterns)?;
     }
     Ok(patterns)
 }
 
 /// Puts the pattern of a terminal.
 fn put_pattern(
+    alloc: Global,
     terminal: &PlainTerminal,
     patterns: &mut BTreeMap<TerminalString, TokenPattern>,
 ) -> Result<(), AllocError>
-    ensures { OnOk result (map (λ e. (e.0, pattern_tree e.1)) patterns.new.entries ≡ insert_entry terminal_cmp (map (λ e. (e.0, pattern_tree e.1)) patterns.old.entries) terminal.now.name (pattern_tree terminal.now.pattern)) }
+    ensures { OnOk result (map pattern_entry patterns.new.entries ≡ insert_entry terminal_cmp (map pattern_entry patterns.old.entries) terminal.now.name (pattern_tree terminal.now.pattern)) }
 {
-    patterns.insert(terminal.name.clone()?, copy_pattern(&terminal.pattern)?)?;
+    let name = copy_terminal(&terminal.name)?;
+    let pattern = copy_pattern(alloc, &terminal.pattern)?;
+    patterns.insert(name, pattern)?;
     Ok(())
-}
-
-/// A copy of a pattern.
-fn copy_pattern(pattern: &TokenPattern) -> Result<TokenPattern, AllocError>
-    ensures { IfOk result (λ p. pattern_tree p ≡ pattern_tree pattern.now) }
-{
-    pattern.clone()
 }
 
 /// The types of the terminals.
 pub fn terminal_types(
     alloc: Global,
     plain: &PlainGrammar,
-    with_error: bool,
+    frame: Frame,
 ) -> Result<BTreeMap<TerminalString, TypeRepr>, AllocError>
-    requires { with_error ≡ uses_error plain.now }
-    ensures { IfOk result (λ m. map typed m.entries ≡ put_all terminal_cmp [] (terminal_types plain.now)) }
+    requires { frame ≡ frame_of plain.now }
+    ensures { IfOk result (λ m. map type_entry m.entries ≡ put_all terminal_cmp [] (terminal_types plain.now)) }
 {
     let mut types = BTreeMap::new(alloc);
     put_declared_types(alloc, plain, &mut types)?;
-    if with_error {
-        put_type(TerminalString::Error, recovery_type(alloc, plain)?, &mut types)?;
-    }
+    put_error_type(alloc, plain, frame.uses_error, &mut types)?;
     Ok(types)
+}
+
+/// Puts the type of the error terminal where it is used.
+fn put_error_type(
+    alloc: Global,
+    plain: &PlainGrammar,
+    used: bool,
+    types: &mut BTreeMap<TerminalString, TypeRepr>,
+) -> Result<(), AllocError>
+    ensures { OnOk result (map type_entry types.new.entries ≡ (if used then insert_entry terminal_cmp (map type_entry types.old.entries) Error (recovery_tree plain.now) else map type_entry types.old.entries)) }
+{
+    if used {
+        let ty = recovery_type(alloc, plain)?;
+        put_type(TerminalString::Error, ty, types)?;
+    }
+    Ok(())
 }
 
 /// Puts the type of a name.
@@ -132,7 +147,7 @@ fn put_type<K: Ord + Drop>(
     ty: TypeRepr,
     types: &mut BTreeMap<K, TypeRepr>,
 ) -> Result<(), AllocError>
-    ensures { OnOk result (map typed types.new.entries ≡ insert_entry K.cmp (map typed types.old.entries) name (type_tree ty)) }
+    ensures { OnOk result (map type_entry types.new.entries ≡ insert_entry K.cmp (map type_entry types.old.entries) name (type_tree ty)) }
 {
     types.insert(name, ty)?;
     Ok(())
@@ -144,12 +159,27 @@ fn put_declared_types(
     plain: &PlainGrammar,
     types: &mut BTreeMap<TerminalString, TypeRepr>,
 ) -> Result<(), AllocError>
-    ensures { OnOk result (map typed types.new.entries ≡ put_all terminal_cmp (map typed types.old.entries) (map (λ t. (t.name, holes_tree plain.now.token t.pattern.holes)) plain.now.conversions)) }
+    ensures { OnOk result (map type_entry types.new.entries ≡ put_all terminal_cmp (map type_entry types.old.entries) (map (λ t. (t.name, holes_tree plain.now.token t.pattern.holes)) plain.now.conversions)) }
 {
     for terminal in plain.conversions.as_slice() {
-        let ty = holes_type(alloc, &plain.token, terminal.pattern.holes.as_slice())?;
-        put_type(terminal.name.clone()?, ty, types)?;
+        put_declared_type(alloc, plain, terminal, types)?;
     }
+    Ok(())
+}
+
+/// Puts the type of a terminal that is declared.
+fn put_declared_type(
+    alloc: Global,
+    plain: &PlainGrammar,
+    terminal: &PlainTerminal,
+    types: &mut BTreeMap<TerminalString, TypeRepr>,
+) -> Result<(), AllocError>
+    ensures { OnOk result (map type_entry types.new.entries ≡ insert_entry terminal_cmp (map type_entry types.old.entries) terminal.now.name (holes_tree plain.now.token terminal.now.pattern.holes)) }
+{
+    let name = copy_terminal(&terminal.name)?;
+    let holes = terminal.pattern.holes.as_slice();
+    let ty = holes_type(alloc, &plain.token, holes)?;
+    put_type(name, ty, types)?;
     Ok(())
 }
 
@@ -158,7 +188,7 @@ pub fn nonterminal_types(
     alloc: Global,
     plain: &PlainGrammar,
 ) -> Result<BTreeMap<NonterminalString, TypeRepr>, AllocError>
-    ensures { IfOk result (λ m. map typed m.entries ≡ put_all nonterminal_cmp [] (nonterminal_types plain.now)) }
+    ensures { IfOk result (λ m. map type_entry m.entries ≡ put_all nonterminal_cmp [] (nonterminal_types plain.now)) }
 {
     let mut types = BTreeMap::new(alloc);
     put_start_types(alloc, plain, &mut types)?;
@@ -172,7 +202,7 @@ fn put_start_types(
     plain: &PlainGrammar,
     types: &mut BTreeMap<NonterminalString, TypeRepr>,
 ) -> Result<(), AllocError>
-    ensures { OnOk result (map typed types.new.entries ≡ put_all nonterminal_cmp (map typed types.old.entries) (map (λ r. (start_name plain.now r, type_tree r.ty)) (public_rules plain.now))) }
+    ensures { OnOk result (map type_entry types.new.entries ≡ put_all nonterminal_cmp (map type_entry types.old.entries) (map (λ r. (start_name plain.now r, type_tree r.ty)) (public_rules plain.now))) }
 {
     for rule in plain.rules.as_slice() {
         put_start_type(alloc, plain, rule, types)?;
@@ -187,10 +217,12 @@ fn put_start_type(
     rule: &PlainRule,
     types: &mut BTreeMap<NonterminalString, TypeRepr>,
 ) -> Result<(), AllocError>
-    ensures { OnOk result (map typed types.new.entries ≡ (if rule.now.public then insert_entry nonterminal_cmp (map typed types.old.entries) (start_name plain.now rule.now) (type_tree rule.now.ty) else map typed types.old.entries)) }
+    ensures { OnOk result (map type_entry types.new.entries ≡ (if rule.now.public then insert_entry nonterminal_cmp (map type_entry types.old.entries) (start_name plain.now rule.now) (type_tree rule.now.ty) else map type_entry types.old.entries)) }
 {
     if rule.public {
-        put_type(start_name(alloc, plain, rule)?, rule.ty.clone()?, types)?;
+        let name = start_name(alloc, plain, rule)?;
+        let ty = rule.ty.clone()?;
+        put_type(name, ty, types)?;
     }
     Ok(())
 }
@@ -200,7 +232,7 @@ fn put_rule_types(
     plain: &PlainGrammar,
     types: &mut BTreeMap<NonterminalString, TypeRepr>,
 ) -> Result<(), AllocError>
-    ensures { OnOk result (map typed types.new.entries ≡ put_all nonterminal_cmp (map typed types.old.entries) (map (λ r. (r.name, type_tree r.ty)) (kept_rules plain.now))) }
+    ensures { OnOk result (map type_entry types.new.entries ≡ put_all nonterminal_cmp (map type_entry types.old.entries) (map (λ r. (r.name, type_tree r.ty)) (kept_rules plain.now))) }
 {
     for rule in plain.rules.as_slice() {
         put_rule_type(rule, types)?;
@@ -213,10 +245,13 @@ fn put_rule_type(
     rule: &PlainRule,
     types: &mut BTreeMap<NonterminalString, TypeRepr>,
 ) -> Result<(), AllocError>
-    ensures { OnOk result (map typed types.new.entries ≡ (if not rule.now.inline then insert_entry nonterminal_cmp (map typed types.old.entries) rule.now.name (type_tree rule.now.ty) else map typed types.old.entries)) }
+    ensures { OnOk result (map type_entry types.new.entries ≡ (if not rule.now.inline then insert_entry nonterminal_cmp (map type_entry types.old.entries) rule.now.name (type_tree rule.now.ty) else map type_entry types.old.entries)) }
 {
-    if !rule.inline {
-        put_type(rule.name.clone()?, rule.ty.clone()?, types)?;
+    if rule.inline {
+        return Ok(());
     }
+    let name = copy_nonterminal(&rule.name)?;
+    let ty = rule.ty.clone()?;
+    put_type(name, ty, types)?;
     Ok(())
 }
