@@ -238,10 +238,7 @@ fn user_action(
 }
 
 /// The names that the symbols of an alternative are bound to.
-fn argument_names(
-    alloc: Global,
-    alternative: &PlainAlternative,
-) -> Result<Items<Text>, AllocError>
+fn argument_names(alloc: Global, alternative: &PlainAlternative) -> Result<Items<Text>, AllocError>
     ensures { IfOk result (λ t. t ≡ map (λ s. s.name) alternative.now.symbols) }
 {
     let mut names = empty(alloc);

@@ -127,12 +127,7 @@ impl Part<'_> {
 
 impl Combination {
     /// Adds the piece of this number.
-    fn add_piece(
-        &mut self,
-        alloc: Global,
-        part: &Part<'_>,
-        number: usize,
-    ) -> Result<(), AllocError>
+    fn add_piece(&mut self, alloc: Global, part: &Part<'_>, number: usize) -> Result<(), AllocError>
         requires { number < length (pieces_of part.now) }
         ensures { OnOk result ((piece : Piece) → slice_get (pieces_of part.now) number ≡ Some piece → self.new ≡ with_piece self.old piece) }
     {

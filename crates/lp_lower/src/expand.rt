@@ -82,9 +82,7 @@ fn one_rule_part<'s>(rule: &PlainRule, expanded: &'s [Expanded]) -> Result<Part<
     if rule.inline {
         Ok(Part::Options(expanded))
     } else {
-        Ok(Part::Itself(Symbol::Nonterminal(copy_nonterminal(
-            &rule.name,
-        )?)))
+        Ok(Part::Itself(Symbol::Nonterminal(copy_nonterminal(&rule.name)?)))
     }
 }
 
@@ -94,9 +92,7 @@ fn terminal_part<'s>(names: &Names<'_>, number: usize) -> Result<Part<'s>, Alloc
 {
     match names.terminal(number) {
         None => Ok(Part::Options(&[])),
-        Some(terminal) => Ok(Part::Itself(Symbol::Terminal(copy_terminal(
-            &terminal.name,
-        )?))),
+        Some(terminal) => Ok(Part::Itself(Symbol::Terminal(copy_terminal(&terminal.name)?))),
     }
 }
 
@@ -128,11 +124,7 @@ pub fn combined(
     ensures { IfOk result (λ v. v.items ≡ combined names.now.plain.now sources.now alternative.now) }
 {
     let parts = parts(alloc, names, sources, alternative)?;
-    Ok(combinations(
-        alloc,
-        alternative.fallible,
-        parts.as_slice(),
-    )?)
+    Ok(combinations(alloc, alternative.fallible, parts.as_slice())?)
 }
 
 /// Whether something in an alternative is replaced.
@@ -338,14 +330,7 @@ fn inline_expanded(
 {
     if rule.inline {
         let alternatives = rule.alternatives.as_slice();
-        Ok(expanded_all(
-            alloc,
-            names,
-            extents,
-            sources,
-            first,
-            alternatives,
-        )?)
+        Ok(expanded_all(alloc, names, extents, sources, first, alternatives)?)
     } else {
         Ok(empty(alloc))
     }

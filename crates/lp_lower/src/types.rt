@@ -128,11 +128,7 @@ fn rule_type(names: &Names<'_>, number: usize) -> Result<TypeRepr, AllocError>
 }
 
 /// The type of the terminal of this number.
-fn terminal_type(
-    alloc: Global,
-    names: &Names<'_>,
-    number: usize,
-) -> Result<TypeRepr, AllocError>
+fn terminal_type(alloc: Global, names: &Names<'_>, number: usize) -> Result<TypeRepr, AllocError>
     ensures { IfOk result (λ t. type_tree t ≡ terminal_tree names.now.plain.now number) }
 {
     match names.terminal(number) {
