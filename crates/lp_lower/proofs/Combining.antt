@@ -75,7 +75,7 @@ choice_at {X} (y ∷ o) css (suc q) r x t e f =
 pub take_at : {X : Type 0} (xs : List X) (i : ℕ) (x : X) → slice_get xs i ≡ Some x → take (i + 1) xs ≡ take i xs ++ x ∷ []
 take_at xs i x e = take_more xs i x (slice_get_within xs i x e) ∙ ap (λ y. take i xs ++ y ∷ []) (get_or_from_slice_get xs i x x e)
 
-abbrev combination : List InlinedSymbol → Bool → List Symbol → Combination
+abbrev pub combination : List InlinedSymbol → Bool → List Symbol → Combination
 combination inlined fallible symbols = record { inlined = inlined; fallible = fallible; symbols = symbols }
 
 -- one more piece
@@ -155,7 +155,7 @@ so_far_more fallible xss place i count left c o h at was m next q r d size count
 pub so_far_digits : (fallible : Bool) (xss : List (List Piece)) (place i count left : ℕ) (c : Combination) (o : List Piece) → i < length xss → get_or xss i o ≡ o → IsSoFar fallible xss place i count left c → Digits (length o) (length (choices (drop (i + 1) xss))) count left
 so_far_digits fallible xss place i count left c o h at was = digits (length o) (length (choices (drop (i + 1) xss))) count left (was.counted ∙ choices_from xss i o h at) was.within
 
-or_nothing : (b : Bool) → (b || false) ≡ b
+pub or_nothing : (b : Bool) → (b || false) ≡ b
 or_nothing true = refl
 or_nothing false = refl
 

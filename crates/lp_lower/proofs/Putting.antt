@@ -1,5 +1,5 @@
 -- What is put into maps, one entry after the other.
-use Rattle.std.proofs.Common.{◌≡◌, ℕ, ◌+◌, ◌<◌, List, [], ◌∷◌, ◌++◌, length, map, drop, refl, sym, ap, ◌∙◌}
+use Rattle.std.proofs.Common.{◌≡◌, ℕ, ◌+◌, ◌<◌, Bool, true, false, cond, List, [], ◌∷◌, ◌++◌, length, map, drop, refl, sym, ap, ◌∙◌, append-nil}
 use Rattle.std.proofs.Math.ListN.{get_or}
 use Rattle.std.specs.BTreeMap.{insert_entry}
 use Rattle.std.specs.declared.cmp.Ordering.{Ordering}
@@ -28,3 +28,8 @@ insert_entry-map {K} {X} {Y} cmp f (e ∷ es) k v =
     let seen = map (λ (e : K × X). (e.0, f e.1)) in
     map-ordering seen (cmp k e.0) ((k, v) ∷ e ∷ es) ((e.0, v) ∷ es) (e ∷ insert_entry cmp es k v)
     ∙ ap (λ l. match_ordering (cmp k e.0) ((k, f v) ∷ (e.0, f e.1) ∷ seen es) ((e.0, f v) ∷ seen es) ((e.0, f e.1) ∷ l)) (insert_entry-map cmp f es k v)
+
+-- one entry more where it is to be put
+pub put_last : {K X : Type 0} (cmp : K → K → Ordering) (xs : List (K × X)) (k : K) (v : X) (b : Bool) (m : List (K × X)) → m ≡ cond b (insert_entry cmp (put_all cmp [] xs) k v) (put_all cmp [] xs) → m ≡ put_all cmp [] (xs ++ cond b ((k, v) ∷ []) [])
+put_last cmp xs k v true m is = is ∙ sym (put_all-append cmp [] xs ((k, v) ∷ []))
+put_last cmp xs k v false m is = is ∙ ap (put_all cmp []) (sym (append-nil xs))
