@@ -17,6 +17,7 @@ use Rattle.lp_lower.specs.Productions.{put_all, start_name, nonterminal_entries}
 use Rattle.lp_lower.specs.TypeOf.{holes_tree, recovery_tree}
 use Rattle.lp_lower.specs.declared.plain.PlainGrammar.{PlainGrammar}
 use Rattle.lp_lower.specs.declared.plain.PlainRule.{PlainRule}
+use Rattle.lp_lower.specs.declared.plain.PlainTerminal.{PlainTerminal}
 
 -- a parameter, its type as a tree
 abbrev pub parameter_tree : Parameter → List ℕ × TypeTree
@@ -33,22 +34,39 @@ public_rules g = filter (λ r. r.public) g.rules
 abbrev pub kept_rules : PlainGrammar → List PlainRule
 kept_rules g = filter (λ r. not r.inline) g.rules
 
--- what is put into the maps
-abbrev pub public_names : PlainGrammar → List (NonterminalString × NonterminalString)
-public_names g = map (λ r. (r.name, start_name g r)) (public_rules g)
+-- a public rule with its start
+abbrev pub public_name : PlainGrammar → PlainRule → NonterminalString × NonterminalString
+public_name g r = (r.name, start_name g r)
 
-abbrev pub pattern_entries : PlainGrammar → List (TerminalString × (List (List ℕ) × TypeTrees))
-pattern_entries g = map (λ t. (t.name, pattern_tree t.pattern)) g.conversions
+abbrev pub public_names : PlainGrammar → List (NonterminalString × NonterminalString)
+public_names g = map (public_name g) (public_rules g)
+
+-- a terminal with its pattern
+abbrev pub named_pattern : PlainTerminal → TerminalString × (List (List ℕ) × TypeTrees)
+named_pattern t = (t.name, pattern_tree t.pattern)
+
+abbrev pub named_patterns : PlainGrammar → List (TerminalString × (List (List ℕ) × TypeTrees))
+named_patterns g = map named_pattern g.conversions
 
 -- the error terminal last where it is used
 abbrev pub terminal_names : PlainGrammar → List TerminalString
 terminal_names g = map (λ t. t.name) g.conversions ++ (if uses_error g then Error ∷ [] else [])
 
+-- a terminal, a start and a rule with their types
+abbrev pub declared_type : PlainGrammar → PlainTerminal → TerminalString × TypeTree
+declared_type g t = (t.name, holes_tree g.token t.pattern.holes)
+
+abbrev pub start_type : PlainGrammar → PlainRule → NonterminalString × TypeTree
+start_type g r = (start_name g r, type_tree r.ty)
+
+abbrev pub kept_type : PlainRule → NonterminalString × TypeTree
+kept_type r = (r.name, type_tree r.ty)
+
 abbrev pub terminal_types : PlainGrammar → List (TerminalString × TypeTree)
-terminal_types g = map (λ t. (t.name, holes_tree g.token t.pattern.holes)) g.conversions ++ (if uses_error g then (Error, recovery_tree g) ∷ [] else [])
+terminal_types g = map (declared_type g) g.conversions ++ (if uses_error g then (Error, recovery_tree g) ∷ [] else [])
 
 abbrev pub nonterminal_types : PlainGrammar → List (NonterminalString × TypeTree)
-nonterminal_types g = map (λ r. (start_name g r, type_tree r.ty)) (public_rules g) ++ map (λ r. (r.name, type_tree r.ty)) (kept_rules g)
+nonterminal_types g = map (start_type g) (public_rules g) ++ map kept_type (kept_rules g)
 
 -- an entry, its type or its pattern as a tree
 abbrev pub type_entry : {K : Type 0} → K × TypeRepr → K × TypeTree
@@ -78,6 +96,6 @@ pub record IsLowering (g : PlainGrammar) (l : Grammar) : Type 0 where
   pub actions : map action_tree l.action_fn_defns ≡ actions_of g
   pub terminals : l.terminals.all ≡ terminal_names g
   pub nonterminals : l.nonterminals.entries ≡ put_all nonterminal_cmp [] (nonterminal_entries g)
-  pub conversions : map pattern_entry l.conversions.entries ≡ put_all terminal_cmp [] (pattern_entries g)
+  pub conversions : map pattern_entry l.conversions.entries ≡ put_all terminal_cmp [] (named_patterns g)
   pub types : IsTyping g l.types
   pub attributes : l.module_attributes ≡ g.attributes

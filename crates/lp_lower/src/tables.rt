@@ -7,7 +7,7 @@ ghost use Rattle.lp_repr.specs.TypeTrees.{type_tree};
 ghost use Rattle.lp_repr.specs.declared.repr.TerminalString.TheVariants.{Error};
 ghost use Rattle.lp_lower.specs.Framing.{frame_of};
 ghost use Rattle.lp_lower.specs.TypeOf.{holes_tree, recovery_tree};
-ghost use Rattle.lp_lower.specs.Lowering.{kept_rules, nonterminal_types, pattern_entries, pattern_entry, pattern_tree, public_names, public_rules, terminal_names, terminal_types, type_entry};
+ghost use Rattle.lp_lower.specs.Lowering.{declared_type, kept_rules, kept_type, named_patterns, nonterminal_types, pattern_entry, pattern_tree, public_names, public_rules, start_type, terminal_names, terminal_types, type_entry};
 ghost use Rattle.lp_lower.specs.Productions.{put_all, start_name};
 
 use crate::copies::{copy_nonterminal, copy_pattern, copy_terminal};
@@ -87,7 +87,7 @@ pub fn patterns(
     alloc: Global,
     plain: &PlainGrammar,
 ) -> Result<BTreeMap<TerminalString, TokenPattern>, AllocError>
-    ensures { IfOk result (λ m. map pattern_entry m.entries ≡ put_all terminal_cmp [] (pattern_entries plain.now)) }
+    ensures { IfOk result (λ m. map pattern_entry m.entries ≡ put_all terminal_cmp [] (named_patterns plain.now)) }
 {
     let mut patterns = BTreeMap::new(alloc);
     for terminal in plain.conversions.as_slice() {
@@ -159,7 +159,7 @@ fn put_declared_types(
     plain: &PlainGrammar,
     types: &mut BTreeMap<TerminalString, TypeRepr>,
 ) -> Result<(), AllocError>
-    ensures { OnOk result (map type_entry types.new.entries ≡ put_all terminal_cmp (map type_entry types.old.entries) (map (λ t. (t.name, holes_tree plain.now.token t.pattern.holes)) plain.now.conversions)) }
+    ensures { OnOk result (map type_entry types.new.entries ≡ put_all terminal_cmp (map type_entry types.old.entries) (map (declared_type plain.now) plain.now.conversions)) }
 {
     for terminal in plain.conversions.as_slice() {
         put_declared_type(alloc, plain, terminal, types)?;
@@ -202,7 +202,7 @@ fn put_start_types(
     plain: &PlainGrammar,
     types: &mut BTreeMap<NonterminalString, TypeRepr>,
 ) -> Result<(), AllocError>
-    ensures { OnOk result (map type_entry types.new.entries ≡ put_all nonterminal_cmp (map type_entry types.old.entries) (map (λ r. (start_name plain.now r, type_tree r.ty)) (public_rules plain.now))) }
+    ensures { OnOk result (map type_entry types.new.entries ≡ put_all nonterminal_cmp (map type_entry types.old.entries) (map (start_type plain.now) (public_rules plain.now))) }
 {
     for rule in plain.rules.as_slice() {
         put_start_type(alloc, plain, rule, types)?;
@@ -232,7 +232,7 @@ fn put_rule_types(
     plain: &PlainGrammar,
     types: &mut BTreeMap<NonterminalString, TypeRepr>,
 ) -> Result<(), AllocError>
-    ensures { OnOk result (map type_entry types.new.entries ≡ put_all nonterminal_cmp (map type_entry types.old.entries) (map (λ r. (r.name, type_tree r.ty)) (kept_rules plain.now))) }
+    ensures { OnOk result (map type_entry types.new.entries ≡ put_all nonterminal_cmp (map type_entry types.old.entries) (map kept_type (kept_rules plain.now))) }
 {
     for rule in plain.rules.as_slice() {
         put_rule_type(rule, types)?;
