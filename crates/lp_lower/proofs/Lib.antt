@@ -6,6 +6,7 @@ pub mod Framed
 pub mod Holes
 pub mod Leasts
 pub mod Made
+pub mod Numbered
 pub mod OrderSteps
 pub mod Pairs
 pub mod PieceSteps
