@@ -1,5 +1,5 @@
 -- Actions as trees, from their parts.
-use Rattle.std.proofs.Common.{◌≡◌, ℕ, Bool, List, [], ◌∷◌, ◌++◌, map, sym, ap, ◌∙◌, append_assoc}
+use Rattle.std.proofs.Common.{◌≡◌, ℕ, Bool, List, [], ◌∷◌, ◌++◌, map, ap, ◌∙◌, append_assoc}
 use Rattle.std.proofs.lemmas.List.{map-append}
 use Rattle.lp_repr.specs.TypeTrees.{TypeTree}
 use Rattle.lp_repr.specs.declared.repr.ActionFnDefn.{ActionFnDefn}

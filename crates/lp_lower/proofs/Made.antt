@@ -1,5 +1,5 @@
 -- Productions, names and nonterminals, from their parts.
-use Rattle.std.proofs.Common.{◌≡◌, ℕ, List, [], ◌∷◌, ap, ◌∙◌}
+use Rattle.std.proofs.Common.{◌≡◌, ℕ, List, ap, ◌∙◌}
 use Rattle.lp_repr.specs.declared.parse_tree.Visibility.{Visibility}
 use Rattle.lp_repr.specs.declared.repr.NonterminalData.{NonterminalData}
 use Rattle.lp_repr.specs.declared.repr.NonterminalString.{NonterminalString}

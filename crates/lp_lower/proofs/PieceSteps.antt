@@ -1,5 +1,5 @@
 -- One more piece of a combination.
-use Rattle.std.proofs.Common.{◌≡◌, ℕ, ◌<◌, zero, suc, Bool, ◌||◌, List, [], ◌∷◌, ◌++◌, length, map, Option, Some, Bor, refl, sym, ap, ◌∙◌, arith}
+use Rattle.std.proofs.Common.{◌≡◌, ℕ, ◌<◌, zero, suc, Bool, ◌||◌, List, [], ◌∷◌, ◌++◌, length, map, Some, Bor, sym, ap, ◌∙◌, arith}
 use Rattle.std.proofs.Math.ListN.{get_or}
 use Rattle.std.specs.List.{slice_get}
 use Rattle.std.specs.Option.{option_map}

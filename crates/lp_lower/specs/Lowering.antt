@@ -1,8 +1,8 @@
 -- The lowering of a plain grammar, field by field.
-use Rattle.std.specs.Prelude.{◌≡◌, ℕ, Bool, not, List, [], ◌∷◌, ◌++◌, map, filter, Option, None, if◌then◌else◌}
+use Rattle.std.specs.Prelude.{◌≡◌, ℕ, not, List, [], ◌∷◌, ◌++◌, map, filter, None, if◌then◌else◌}
 use Rattle.std.specs.Option.{option_map}
 use Rattle.lp_repr.specs.NameOrder.{nonterminal_cmp, terminal_cmp}
-use Rattle.lp_repr.specs.TypeTrees.{TypeTree, TypeTrees, ClauseTree, type_tree, types_trees, clause_tree}
+use Rattle.lp_repr.specs.TypeTrees.{TypeTree, TypeTrees, type_tree, types_trees, clause_tree}
 use Rattle.lp_repr.specs.declared.repr.Grammar.{Grammar}
 use Rattle.lp_repr.specs.declared.repr.NonterminalString.{NonterminalString}
 use Rattle.lp_repr.specs.declared.repr.Parameter.{Parameter}

@@ -1,5 +1,5 @@
 -- What a combination is made of.
-use Rattle.std.specs.Prelude.{ℕ, Bool, false, ◌||◌, List, [], ◌∷◌, ◌++◌, map}
+use Rattle.std.specs.Prelude.{Bool, false, ◌||◌, List, [], ◌∷◌, ◌++◌, map}
 use Rattle.std.specs.List.{flat_map, list_any}
 use Rattle.lp_repr.specs.declared.repr.InlinedSymbol.{InlinedSymbol}
 use Rattle.lp_repr.specs.declared.repr.InlinedSymbol.TheVariants as inlined

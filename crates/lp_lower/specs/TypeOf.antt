@@ -1,9 +1,8 @@
 -- The types of symbols, as trees.
-use Rattle.std.specs.Prelude.{ℕ, false, List, [], ◌∷◌, ◌++◌, map, Option, None, Some, codes, slice_get}
+use Rattle.std.specs.Prelude.{ℕ, false, List, [], ◌∷◌, ◌++◌, Option, None, Some, codes, slice_get}
 use Rattle.std.specs.Option.{option_map_or}
 use Rattle.lp_repr.specs.TypeTrees.{TypeTree, tuple_type, nominal_type, reference_type, end, more, type_tree, types_trees}
 use Rattle.lp_repr.specs.declared.parse_tree.Path.{Path}
-use Rattle.lp_repr.specs.declared.repr.TokenPattern.{TokenPattern}
 use Rattle.lp_repr.specs.declared.repr.TypeRepr.{TypeRepr}
 use Rattle.lp_lower.specs.declared.names.Target.{Target}
 use Rattle.lp_lower.specs.declared.names.Target.TheVariants as target_of

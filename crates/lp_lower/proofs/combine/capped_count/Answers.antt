@@ -1,4 +1,4 @@
-use Rattle.std.proofs.Common.{◌≡◌, ℕ, ◌-◌, ◌^◌, ◌<◌, [], List, length, map, drop, sym, ap, ◌∙◌, arith}
+use Rattle.std.proofs.Common.{◌≡◌, ◌-◌, ◌^◌, ◌<◌, [], List, length, map, drop, sym, ap, ◌∙◌, arith}
 use Rattle.std.proofs.Math.ListN.{get_or, get_or-map}
 use Rattle.std.proofs.lemmas.List.{length-map, drop_all}
 use Rattle.lp_lower.specs.Choices.{choices}

@@ -1,4 +1,4 @@
-use Rattle.std.proofs.Common.{◌≡◌, Some, false, [], ◌∷◌, codes, string_bytes, ap, ◌∙◌}
+use Rattle.std.proofs.Common.{◌≡◌, Some, false, [], ◌∷◌, codes, ap, ◌∙◌}
 use Rattle.lp_repr.specs.TypeTrees.{nominal_type, reference_type, type_tree, types_trees}
 use Rattle.lp_lower.specs.TypeOf.{path_of}
 use Rattle.lp_lower.proofs.types.static_str.Goals as goal
