@@ -194,9 +194,8 @@ fn productions(
 ) -> Result<Items<Production>, AllocError>
     ensures { IfOk result (λ p. p ≡ map (production_of name.now) expanded) }
 {
-    let Items(expanded) = expanded;
     let mut productions = empty(alloc);
-    for one in expanded {
+    for one in expanded.0 {
         let production = production_of(name, one)?;
         push(&mut productions, production)?;
     }
