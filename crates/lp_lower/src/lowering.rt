@@ -105,7 +105,6 @@ fn assembled(
     ensures { IfOk result (IsLowering names.now.plain.now) }
 {
     let plain = names.plain;
-    let prefix = plain.prefix.clone()?;
     let start_nonterminals = public_names(alloc, plain)?;
     let uses = copy_texts(alloc, &plain.uses)?;
     let type_parameters = copy_type_parameters(alloc, &plain.type_parameters)?;
@@ -113,12 +112,10 @@ fn assembled(
     let where_clauses = copy_clauses(alloc, &plain.where_clauses)?;
     let action_fn_defns = actions(alloc, names, extents, sources, frame)?;
     let all = terminal_names(alloc, plain, frame)?;
-    let nonterminals = nonterminals(alloc, names, extents, sources, frame)?;
     let conversions = patterns(alloc, plain)?;
-    let types = types(alloc, plain, frame)?;
     let module_attributes = copy_texts(alloc, &plain.attributes)?;
     Ok(Grammar {
-        prefix,
+        prefix: plain.prefix.clone()?,
         algorithm: plain.algorithm,
         uses_error_recovery: frame.uses_error,
         start_nonterminals,
@@ -129,9 +126,9 @@ fn assembled(
         intern_token: None,
         action_fn_defns,
         terminals: TerminalSet { all },
-        nonterminals,
+        nonterminals: nonterminals(alloc, names, extents, sources, frame)?,
         conversions,
-        types,
+        types: types(alloc, plain, frame)?,
         module_attributes,
     })
 }

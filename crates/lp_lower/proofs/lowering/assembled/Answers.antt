@@ -4,7 +4,7 @@ use Rattle.lp_lower.proofs.lowering.assembled.Goals as goal
 
 pub returns : goal.returns
 returns c = record {
-  prefix = c.in_ok-prefix.ensures.cases;
+  prefix = c.in_ok-clone.ensures.cases;
   algorithm = refl;
   uses_error_recovery = ap (λ (f : Frame). f.uses_error) c.requires.framed;
   start_nonterminals = c.in_ok-start_nonterminals.ensures;
