@@ -32,7 +32,7 @@ recovery_tree g = nominal_type (path_of ((g.prefix ++ codes "lalrpop_util") ∷ 
 abbrev pub holes_tree : TypeRepr → List TypeRepr → TypeTree
 holes_tree token [] = type_tree token
 holes_tree token (hole ∷ []) = type_tree hole
-holes_tree token (first ∷ second ∷ rest) = tuple_type (types_trees (first ∷ second ∷ rest))
+holes_tree token (first ∷ (second ∷ rest)) = tuple_type (types_trees (first ∷ second ∷ rest))
 
 -- the rule, and the terminal, of this number
 abbrev pub rule_tree : PlainGrammar → ℕ → TypeTree
