@@ -5,3 +5,4 @@ pub mod Filters
 pub mod VariantPlaces
 pub mod NamedRows
 pub mod ReferentRows
+pub mod TreeTexts

@@ -10,3 +10,4 @@ pub mod Variants
 pub mod Comments
 pub mod Named
 pub mod MachineParameters
+pub mod TreeTexts
