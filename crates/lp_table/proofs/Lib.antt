@@ -1,0 +1,2 @@
+pub mod MachineFields
+pub mod CatchAll

@@ -1,0 +1,6 @@
+pub mod Pieces
+pub mod Headers
+pub mod Starts
+pub mod Machines
+pub mod MachineLines
+pub mod TableLines
