@@ -76,7 +76,7 @@ printed_is n arms (One target) is = one_printed n arms target is
 printed_is n arms (Several rest other) is =
     let c = is.0 in
     let place : catch_all_place arms ≡ c = catch_all_placed arms c is.1.1 in
-    let lines : ℕ → List GotoArm → List Item = λ t as_rows. over part.GotoMatch (decimal n ∷ decimal t ∷ []) (map arm_row as_rows) in
+    let lines : ℕ → List GotoArm → List Item = λ t rows. over part.GotoMatch (decimal n ∷ decimal t ∷ []) (map arm_row rows) in
     ap (λ (r : List GotoArm). lines other r) (is.1.2 ∙ ap (remove arms) (sym place))
     ∙ (ap (λ (t : ℕ). lines t (remove arms (catch_all_place arms))) (is.1.3 ∙ ap (target_at arms) (sym place))
     ∙ several_printed n arms is.1.0)

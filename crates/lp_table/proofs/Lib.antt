@@ -1,2 +1,3 @@
 pub mod MachineFields
 pub mod CatchAll
+pub mod Members

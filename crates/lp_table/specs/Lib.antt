@@ -4,3 +4,5 @@ pub mod Starts
 pub mod Machines
 pub mod MachineLines
 pub mod TableLines
+pub mod TokenLines
+pub mod KnownTerminals

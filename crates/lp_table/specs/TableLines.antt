@@ -86,8 +86,11 @@ terminal_name (Quoted text) = terminal_text (Quoted text) ∷ []
 terminal_name (Bare name) = terminal_text (Bare name) ∷ []
 terminal_name Error = []
 
+abbrev pub terminal_lines : List TerminalString → List Item
+terminal_lines terminals = over part.TerminalList [] (text_rows part.TerminalRow (flat_map terminal_name terminals))
+
 abbrev pub terminal_names : Grammar → List Item
-terminal_names g = over part.TerminalList [] (text_rows part.TerminalRow (flat_map terminal_name (terminals_of g)))
+terminal_names g = terminal_lines (terminals_of g)
 
 -- the terminals with an action in a state
 abbrev pub expected_lines : Grammar → List Lr1State → List Item

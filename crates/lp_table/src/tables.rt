@@ -4,9 +4,8 @@ ghost use Rattle.std.specs.Prelude.{◌≡◌, ◌++◌, All, map, IfOk, OnOk};
 ghost use Rattle.std.specs.List.{flat_map};
 ghost use Rattle.lp_build.specs.Tables.{goto_row, range_text};
 ghost use Rattle.lp_parts.specs.Entries.{EntriesFit};
-ghost use Rattle.lp_parts.specs.GotoLaw.{IsGotosOf};
 ghost use Rattle.lp_parts.specs.Gotos.{arms_of, column_from};
-ghost use Rattle.lp_table.specs.TableLines.{action_lookup, action_table, arm_row, end_table, goto_function, gotos_lines, printed_gotos, range_shown, terminal_name, terminal_names};
+ghost use Rattle.lp_table.specs.TableLines.{action_lookup, action_table, arm_row, end_table, goto_function, gotos_lines, printed_gotos, range_shown, terminal_lines, terminal_name};
 ghost use Rattle.lp_tree.specs.ProgramTree.{items};
 
 use crate::pieces::{lent_name, made, piece_of, shown};
@@ -18,7 +17,7 @@ use lp_build::{
 use lp_parts::comment::Comment;
 use lp_parts::entries::{action_table_entries, end_table_entries};
 use lp_parts::gotos::{self, Gotos, gotos_on};
-use lp_repr::repr::{Grammar, Production, TerminalString};
+use lp_repr::repr::{Production, TerminalSet, TerminalString};
 use lp_repr::{Lr1State, ShownItem, ShownToken, Token};
 use lp_tree::{Node, Piece, RowNote};
 use std::alloc::{AllocError, Global};
@@ -181,7 +180,13 @@ pub fn goto_function<'t>(alloc: Global, shared: &Shared<'t>) -> Result<Node<'t>,
     let mut number: usize = 0;
     let mut below = Vec::new(alloc);
     for nonterminal in grammar.nonterminals.keys() {
-        push_gotos(alloc, &mut below, shared.states, number, nonterminal.0.as_str())?;
+        push_gotos(
+            alloc,
+            &mut below,
+            shared.states,
+            number,
+            nonterminal.0.as_str(),
+        )?;
         number = number.checked_add(1).ok_or(AllocError)?;
     }
     goto_fn(alloc, lent_name(shared.state_type), below)
@@ -276,12 +281,12 @@ fn printed_ranges(
 }
 
 /// The names of the terminals but the error terminal.
-pub fn terminal_names<'t>(alloc: Global, grammar: &Grammar) -> Result<Node<'t>, AllocError>
-    ensures { IfOk result (λ n. items n ≡ terminal_names grammar.now) }
+pub fn terminal_names<'t>(alloc: Global, terminals: &TerminalSet) -> Result<Node<'t>, AllocError>
+    ensures { IfOk result (λ n. items n ≡ terminal_lines terminals.now.all) }
 {
-    let terminals = grammar.terminals.all.as_slice();
+    let all = terminals.all.as_slice();
     let mut names = Vec::new(alloc);
-    for terminal in terminals {
+    for terminal in all {
         push_terminal(alloc, &mut names, terminal)?;
     }
     terminal_list(alloc, names)
