@@ -70,6 +70,24 @@ pub fn parse_module<'t>(
     Ok(node)
 }
 
+/// Form 5 of table-driven code: the module of a start nonterminal, with its uses, and its items.
+pub fn table_module<'t>(
+    alloc: Global,
+    start: Name<'t>,
+    below: Vec<Node<'t>>,
+    rows: Vec<Node<'t>>,
+) -> Result<Node<'t>, AllocError>
+    ensures head { IfOk result (λ n. head n ≡ (Part.ParseModule, start.entry ∷ [], [])) }
+    ensures below { IfOk result (λ n. parts_below n ≡ flat_map items below.entry.items ++ over Part.TableItems [] (flat_map items rows.entry.items)) }
+{
+    let mut node = text_row(alloc, Part::ParseModule, start.into_piece())?;
+    let mut list = bare(alloc, Part::TableItems)?;
+    node.add_all(below)?;
+    list.add_all(rows)?;
+    node.add(list)?;
+    Ok(node)
+}
+
 /// The place of the first item, or that behind all nodes.
 fn items_place(nodes: &[Node<'_>]) -> usize
     ensures place { result ≡ items_place nodes.now }

@@ -24,8 +24,8 @@ pub use ascent::{
 };
 pub use ascent_reduce::{AscentSpan, Reduction, reduce_arm, transition};
 pub use frame::{
-    InternEntry, Triples, attribute, parse_module, program, reexport, standard_uses, to_triple,
-    token_module, token_use, use_line,
+    InternEntry, Triples, attribute, parse_module, program, reexport, standard_uses, table_module,
+    to_triple, token_module, token_use, use_line,
 };
 pub use functions::{FunctionName, header, parser, token_source};
 use lp_form::Part;
@@ -36,7 +36,8 @@ pub use machine::{
     Field, SimulateArm, accepts, drive, machine_impl, machine_struct, simulate_reduce,
 };
 pub use reductions::{
-    Produced, ReduceArm, ReduceCall, mismatch, pop, reduce, reduce_body, reduce_fn,
+    Produced, ReduceArm, ReduceCall, mismatch, pop, reduce, reduce_body, reduce_body_arm,
+    reduce_call_arm, reduce_fn, reduce_rows,
 };
 use std::alloc::{AllocError, Global};
 use std::borrow::CowStr;

@@ -1,8 +1,9 @@
 //! Reductions of the table-driven code.
 
 ghost use Rattle.std.specs.Prelude.{◌≡◌, [], ◌∷◌, ◌++◌, length, IfOk, OnOk};
+ghost use Rattle.std.specs.Fmt.{decimal};
 ghost use Rattle.std.specs.List.{flat_map};
-ghost use Rattle.lp_build.specs.Built.{text_if, text_rows};
+ghost use Rattle.lp_build.specs.Built.{over, text_if, text_rows};
 ghost use Rattle.lp_build.specs.Reductions.{all_arms, arm_lines, assert_lines, bodies_after, body_in, but_body, call_of, outcome_of, pop_lines, span_of};
 ghost use Rattle.lp_tree.specs.ProgramTree.{head, items, leaf, parts_below};
 
@@ -119,6 +120,48 @@ pub fn reduce<'t>(
     let mut node = bare(alloc, Part::Reduce)?;
     let bodies = add_but_bodies(alloc, &mut node, below)?;
     add_arms(alloc, &mut node, arms, VecDeque::from(bodies))?;
+    Ok(node)
+}
+
+/// A production that calls its own function: each parameter name and `, `, and the phantom
+/// expression.
+pub fn reduce_call_arm<'t>(
+    alloc: Global,
+    production: u64,
+    arguments: Piece<'t>,
+    phantom: Piece<'t>,
+) -> Result<Node<'t>, AllocError>
+    ensures { IfOk result (λ n. items n ≡ leaf Part.ReduceCallArm (decimal production ∷ arguments.entry ∷ phantom.entry ∷ [])) }
+{
+    let production = Piece::number(alloc, production)?;
+    let holes = vec![in alloc; production, arguments, phantom]?;
+    Node::leaf(alloc, Part::ReduceCallArm, holes)
+}
+
+/// A production with its body.
+pub fn reduce_body_arm<'t>(
+    alloc: Global,
+    production: u64,
+    body: Node<'t>,
+) -> Result<Node<'t>, AllocError>
+    ensures { IfOk result (λ n. items n ≡ over Part.ReduceBodyArm (decimal production ∷ []) (items body.entry)) }
+{
+    let mut row = text_row(
+        alloc,
+        Part::ReduceBodyArm,
+        Piece::number(alloc, production)?,
+    )?;
+    row.add(body)?;
+    Ok(row)
+}
+
+/// Form 29 by its rows: the header, and the productions in their order.
+pub fn reduce_rows<'t>(alloc: Global, below: Vec<Node<'t>>) -> Result<Node<'t>, AllocError>
+    ensures head { IfOk result (λ n. head n ≡ (Part.Reduce, [], [])) }
+    ensures below { IfOk result (λ n. parts_below n ≡ flat_map items below.entry.items) }
+{
+    let mut node = bare(alloc, Part::Reduce)?;
+    node.add_all(below)?;
     Ok(node)
 }
 

@@ -6,3 +6,4 @@ pub mod MachineLines
 pub mod TableLines
 pub mod TokenLines
 pub mod KnownTerminals
+pub mod ReductionLines

@@ -91,13 +91,13 @@ fn variants_of<'t>(alloc: Global, types: &[&TypeRepr]) -> Result<Vec<Variant<'t>
 {
     let mut variants = Vec::new(alloc);
     for (number, ty) in types.iter().enumerate() {
-        variants.push(variant(alloc, number, *ty)?)?;
+        variants.push(variant_for(alloc, number, *ty)?)?;
     }
     Ok(variants)
 }
 
 /// The variant of a type.
-fn variant<'t>(alloc: Global, number: usize, ty: &TypeRepr) -> Result<Variant<'t>, AllocError>
+fn variant_for<'t>(alloc: Global, number: usize, ty: &TypeRepr) -> Result<Variant<'t>, AllocError>
     ensures { IfOk result (λ v. variant_row v ∷ [] ≡ variant_rows number (ty.now ∷ [])) }
 {
     let name = variant_name(alloc, number)?;

@@ -3,7 +3,6 @@
 ghost use Rattle.std.specs.Prelude.{◌≡◌, string_bytes, IfOk, IfSome};
 ghost use Rattle.lp_table.specs.Pieces.{unless_empty, variant_text};
 
-use lp_repr::Shown;
 use lp_tree::{Name, Piece};
 use std::alloc::{AllocError, Global};
 use std::borrow::CowStr;
@@ -48,7 +47,7 @@ pub fn shown<'t, T: Display>(alloc: Global, value: &T) -> Result<Piece<'t>, Allo
 }
 
 /// What a value is always shown as.
-pub fn piece_of<'t, T: Shown>(alloc: Global, value: &T) -> Result<Piece<'t>, AllocError>
+pub fn piece_of<'t, T: lp_repr::Shown>(alloc: Global, value: &T) -> Result<Piece<'t>, AllocError>
     ensures { IfOk result (λ p. p ≡ T.text value.now) }
 {
     Ok(made(value.to_string(alloc)?))
