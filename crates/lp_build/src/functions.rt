@@ -1,6 +1,6 @@
 //! Function headers, and parsers with their `parse` method.
 
-ghost use Rattle.std.specs.Prelude.{◌≡◌, [], ◌∷◌, ◌++◌, IfOk, OnOk, if◌then◌else◌};
+ghost use Rattle.std.specs.Prelude.{◌≡◌, false, [], ◌∷◌, ◌++◌, IfOk, OnOk, if◌then◌else◌};
 ghost use Rattle.std.specs.List.{flat_map, list_any};
 ghost use Rattle.lp_build.specs.Built.{text_rows};
 ghost use Rattle.lp_build.specs.Functions.{clause_lines, name_holes, name_part, parser_part, result_line};
@@ -125,6 +125,25 @@ pub fn parser<'t>(
         part,
         vec![in alloc; visibility, public_name.into_piece()]?,
     )?;
+    node.add_all(below)?;
+    Ok(node)
+}
+
+/// Form 9 of table-driven code, as the parser by tables. Below it: the header of `parse`, the token
+/// source, and `drive`.
+pub fn table_parser<'t>(
+    alloc: Global,
+    visibility: Piece<'t>,
+    public_name: Name<'t>,
+    interned: bool,
+    below: Vec<Node<'t>>,
+) -> Result<Node<'t>, AllocError>
+    ensures head { IfOk result (λ n. head n ≡ (parser_part false interned, visibility.entry ∷ public_name.entry ∷ [], [])) }
+    ensures below { IfOk result (λ n. parts_below n ≡ flat_map items below.entry.items) }
+{
+    let part = parser_part(false, interned);
+    let holes = vec![in alloc; visibility, public_name.into_piece()]?;
+    let mut node = Node::leaf(alloc, part, holes)?;
     node.add_all(below)?;
     Ok(node)
 }

@@ -27,7 +27,7 @@ pub use frame::{
     InternEntry, Triples, attribute, parse_module, program, reexport, standard_uses, table_module,
     to_triple, token_module, token_use, use_line,
 };
-pub use functions::{FunctionName, header, parser, token_source};
+pub use functions::{FunctionName, header, parser, table_parser, token_source};
 use lp_form::Part;
 use lp_tree::piece::{Name, Piece};
 use lp_tree::tree::Node;

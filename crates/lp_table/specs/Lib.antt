@@ -7,3 +7,5 @@ pub mod TableLines
 pub mod TokenLines
 pub mod KnownTerminals
 pub mod ReductionLines
+pub mod FrameLines
+pub mod BuiltTable

@@ -14,4 +14,4 @@ pub mod tokens;
 pub use lp_parts::{
     Comment, MachineParameters, filter_type_parameters_and_where_clauses, state_type,
 };
-pub use table_module::build_table_module;
+pub use table_module::{build_table_module, table_module_of};

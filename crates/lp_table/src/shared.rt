@@ -1,8 +1,8 @@
 //! What the forms of one module share.
 
-ghost use Rattle.std.specs.Prelude.{◌≡◌, ◌<◌, length, map, string_bytes, IfOk, IsSome};
+ghost use Rattle.std.specs.Prelude.{◌≡◌, ◌<◌, length, map, option_map, slice_get, string_bytes, IfOk, IsSome};
 ghost use Rattle.std.specs.BTreeMap.{btree_map_len, get};
-ghost use Rattle.std.specs.Map.Iter.{deref};
+ghost use Rattle.std.specs.Map.Iter.{deref, deref_pair};
 ghost use Rattle.lp_repr.specs.NameOrder.{nonterminal_cmp};
 ghost use Rattle.lp_repr.specs.Numbering.{productions_of};
 ghost use Rattle.lp_repr.specs.Shown.{parameter_text};
@@ -78,7 +78,8 @@ pub fn symbol_type<'t>(grammar: &'t Grammar, symbol: &Symbol) -> &'t TypeRepr
 
 /// A start's public name and its nonterminal.
 pub fn start_at(grammar: &Grammar, start: usize) -> Option<(&NonterminalString, &NonterminalString)>
-    ensures { start < btree_map_len grammar.now.start_nonterminals → IsSome result }
+    ensures there { start < btree_map_len grammar.now.start_nonterminals → IsSome result }
+    ensures entry { option_map deref_pair result ≡ slice_get grammar.now.start_nonterminals.entries start }
 {
     grammar.start_nonterminals.iter().nth(start)
 }
