@@ -1,6 +1,7 @@
 //! The tree of a table-driven module, and what the back ends share.
 #![tactic(auto)]
 
+pub mod back_end;
 pub mod frame;
 pub mod headers;
 pub mod machine;
@@ -11,6 +12,7 @@ pub mod table_module;
 pub mod tables;
 pub mod tokens;
 
+pub use back_end::{BackEnd, TableBackEnd};
 pub use lp_parts::{
     Comment, MachineParameters, filter_type_parameters_and_where_clauses, state_type,
 };

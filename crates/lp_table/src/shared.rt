@@ -6,7 +6,6 @@ ghost use Rattle.std.specs.Map.Iter.{deref, deref_pair};
 ghost use Rattle.lp_repr.specs.NameOrder.{nonterminal_cmp};
 ghost use Rattle.lp_repr.specs.Numbering.{productions_of};
 ghost use Rattle.lp_repr.specs.Shown.{parameter_text};
-ghost use Rattle.lp_repr.specs.declared.repr.Grammar.{Grammar};
 ghost use Rattle.lp_parts.specs.Phantom.{phantom_expression_of, phantom_type_of};
 ghost use Rattle.lp_parts.specs.StateType.{state_type_of};
 ghost use Rattle.lp_parts.specs.Texts.{arguments_of, each_with_comma, error_text, generic_names_text, location_text, parse_error_text, spanned_symbol_of, symbol_clauses_text, symbol_parameters, symbol_parameters_text, symbol_text, token_text, triple_text};
