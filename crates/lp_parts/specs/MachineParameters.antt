@@ -110,14 +110,14 @@ abbrev pub first_number : Grammar → ℕ
 first_number g = length g.type_parameters
 
 -- the type parameters, fields and clauses of the state machine
-abbrev pub machine_parameters : Grammar → List TypeParameter
+unfoldable pub machine_parameters : Grammar → List TypeParameter
 machine_parameters g =
     lifetimes_first (g.type_parameters ++ lifetimes_from g.prefix (first_number g) (all_referents g.parameters))
 
-abbrev pub machine_fields : Grammar → List (List ℕ × TypeTree)
+unfoldable pub machine_fields : Grammar → List (List ℕ × TypeTree)
 machine_fields g = fields_from g.prefix (first_number g) g.parameters
 
-abbrev pub machine_clauses : Grammar → List ClauseTree
+unfoldable pub machine_clauses : Grammar → List ClauseTree
 machine_clauses g =
     map clause_tree g.where_clauses
     ++ outlived_from g.type_parameters g.prefix (first_number g) (all_referents g.parameters)

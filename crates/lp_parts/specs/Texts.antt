@@ -51,10 +51,10 @@ triple_text g = spanned_of (location_text g) (token_text g)
 abbrev pub valued_types : Grammar → List TypeRepr
 valued_types g = values g.types.nonterminals ++ values g.types.terminals
 
-abbrev pub symbol_parameters : Grammar → List TypeParameter
+unfoldable pub symbol_parameters : Grammar → List TypeParameter
 symbol_parameters g = parameters_among g (free_in_types g (valued_types g))
 
-abbrev pub symbol_clauses : Grammar → List WhereClause
+unfoldable pub symbol_clauses : Grammar → List WhereClause
 symbol_clauses g = clauses_among g (free_in_types g (valued_types g))
 
 abbrev pub symbol_parameters_text : Grammar → List ℕ

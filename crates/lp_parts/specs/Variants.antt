@@ -41,12 +41,12 @@ variant_numbers types [] = []
 variant_numbers types (ty ∷ others) = variant_number types ty ∷ variant_numbers (with_type types ty) others
 
 -- the types of the variants: those of terminals, then those of nonterminals
-abbrev pub variant_types : Grammar → List TypeRepr
+unfoldable pub variant_types : Grammar → List TypeRepr
 variant_types g = with_types (with_types [] (terminal_types g)) (nonterminal_types g)
 
 -- the variant of each terminal, and of each nonterminal, by number
-abbrev pub terminal_variants : Grammar → List ℕ
+unfoldable pub terminal_variants : Grammar → List ℕ
 terminal_variants g = variant_numbers [] (terminal_types g)
 
-abbrev pub nonterminal_variants : Grammar → List ℕ
+unfoldable pub nonterminal_variants : Grammar → List ℕ
 nonterminal_variants g = variant_numbers (with_types [] (terminal_types g)) (nonterminal_types g)

@@ -26,6 +26,7 @@ pub struct MachineParameters {
 }
 
 impl MachineParameters {
+    #[tactic(auto, unfolding(crate::specs::MachineParameters::machine_parameters, crate::specs::MachineParameters::machine_fields, crate::specs::MachineParameters::machine_clauses))]
     pub fn new(alloc: Global, grammar: &Grammar) -> Result<MachineParameters, AllocError>
         ensures type_parameters { IfOk result (λ m. m.type_parameters ≡ machine_parameters grammar.now) }
         ensures fields { IfOk result (λ m. map field_tree m.fields ≡ machine_fields grammar.now) }

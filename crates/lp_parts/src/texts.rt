@@ -115,6 +115,7 @@ pub struct SymbolTexts<'t> {
 }
 
 impl<'t> SymbolTexts<'t> {
+    #[tactic(auto, unfolding(crate::specs::Texts::symbol_parameters, crate::specs::Texts::symbol_clauses))]
     pub fn new(
         alloc: Global,
         grammar: &'t Grammar,

@@ -19,6 +19,7 @@ pub struct Variants<'t> {
 }
 
 impl<'t> Variants<'t> {
+    #[tactic(auto, unfolding(crate::specs::Variants::variant_types, crate::specs::Variants::terminal_variants, crate::specs::Variants::nonterminal_variants))]
     pub fn new(alloc: Global, grammar: &'t Grammar) -> Result<Variants<'t>, AllocError>
         ensures types { IfOk result (λ v. map deref v.types.items ≡ variant_types grammar.entry.now) }
         ensures terminals { IfOk result (λ v. v.terminals.items ≡ terminal_variants grammar.entry.now) }
@@ -113,7 +114,7 @@ fn variant_of<'t>(types: &mut Vec<&'t TypeRepr>, ty: &'t TypeRepr) -> Result<usi
 }
 
 /// The place of a type among types, their count where it isn't there.
-#[tactic(auto, using(std::proofs::lemmas::Grind::common_steps, crate::proofs::VariantPlaces::lengths, crate::proofs::VariantPlaces::places))]
+#[tactic(auto, using(std::proofs::lemmas::Grind::common_steps, crate::proofs::VariantPlaces::lengths))]
 fn variant_number(types: &[&TypeRepr], ty: &TypeRepr) -> usize
     ensures { result ≡ variant_number (map deref types.now) ty.now }
 {
@@ -125,6 +126,13 @@ fn variant_number(types: &[&TypeRepr], ty: &TypeRepr) -> usize
 
 /// The place of a type among types.
 fn place_of(types: &[&TypeRepr], ty: &TypeRepr) -> Option<usize>
+    ensures { result ≡ position (type_eq ty.now) (map deref types.now) }
+{
+    place_in(types, ty)
+}
+
+/// The same, among the references to types.
+fn place_in(types: &[&TypeRepr], ty: &TypeRepr) -> Option<usize>
     ensures { result ≡ position (λ t. type_eq ty.now t.now) types.now }
 {
     types.iter().position(|other| is_same(ty, *other))

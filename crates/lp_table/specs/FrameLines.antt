@@ -23,7 +23,7 @@ abbrev pub use_lines : List ℕ → List Item
 use_lines text = leaf part.UseLine (inner_use text ∷ [])
 
 -- the uses of a module inside
-abbrev pub inner_uses : Grammar → List Item
+unfoldable pub inner_uses : Grammar → List Item
 inner_uses g = flat_map use_lines g.uses ++ leaf part.StandardUses []
 
 abbrev pub token_use_lines : Grammar → List Item
@@ -61,6 +61,6 @@ abbrev pub source_lines : Grammar → List Item
 source_lines g = leaf (if is_interned g then part.TokenSourceInterned else part.TokenSourcePlain) []
 
 -- the parser by tables, with this body of its `parse` method
-abbrev pub table_parser : Grammar → Start → List Item → List Item
+unfoldable pub table_parser : Grammar → Start → List Item → List Item
 table_parser g s body =
     over (parser_part false (is_interned g)) (s.visibility ∷ s.public_name ∷ []) ((parse_header g s ++ source_lines g) ++ body)

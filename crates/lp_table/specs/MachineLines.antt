@@ -30,18 +30,22 @@ phantom_text g = phantom_expression_of g.type_parameters
 abbrev pub phantom_parameter : Grammar → List ℕ
 phantom_parameter g = codes "_: " ++ phantom_type_text g
 
+-- the variant of a type
+abbrev pub variant_line : ℕ → TypeRepr → Item
+variant_line n ty = row part.VariantRow (variant_text n ∷ type_text ty ∷ [])
+
 -- the variants of the symbol enum, from a number on
 abbrev pub variant_rows : ℕ → List TypeRepr → List Item
 variant_rows n [] = []
-variant_rows n (ty ∷ types) = row part.VariantRow (variant_text n ∷ type_text ty ∷ []) ∷ variant_rows (n + 1) types
+variant_rows n (ty ∷ types) = variant_line n ty ∷ variant_rows (n + 1) types
 
-abbrev pub symbol_values : Grammar → List Item
+unfoldable pub symbol_values : Grammar → List Item
 symbol_values g =
     over part.SymbolEnum (symbol_parameters_text g ∷ [])
     (text_if part.WhereLine (unless_empty (symbol_clauses_text g)) ++ variant_rows 0 (variant_types g))
 
 -- the struct
-abbrev pub definition : Grammar → List Item
+unfoldable pub definition : Grammar → List Item
 definition g =
     over part.MachineStruct (machine_generics_text g ∷ machine_clauses_text g ∷ phantom_type_text g ∷ []) (machine_field_lines g)
 
@@ -51,7 +55,7 @@ recovery_variant g =
     if g.uses_error_recovery then option_map variant_text (slice_get (terminal_variants g) (length (terminal_variants g) - 1)) else None
 
 -- what the driver asks the struct
-abbrev pub implementation : Grammar → List Lr1State → Start → List Item
+unfoldable pub implementation : Grammar → List Lr1State → Start → List Item
 implementation g states s =
     over part.MachineImpl
     (machine_generics_text g ∷ machine_clauses_text g ∷ location_text g ∷ error_text g ∷ token_text g ∷ symbol_parameters_text g ∷ s.ty ∷ state_text g states ∷ phantom_text g ∷ last_terminal (length g.terminals.all) ∷ [])
@@ -62,7 +66,7 @@ abbrev pub states_parameter : Grammar → List Lr1State → List ℕ
 states_parameter g states = g.prefix ++ (codes "states: &[" ++ (state_text g states ++ codes "]"))
 
 -- the terminals that a stack of states accepts
-abbrev pub expected_list : Grammar → List Lr1State → List Item
+unfoldable pub expected_list : Grammar → List Lr1State → List Item
 expected_list g states =
     over part.ExpectedFromStates (phantom_text g ∷ [])
     (machine_header g name.ExpectedTokensFromStates (states_parameter g states ∷ phantom_parameter g ∷ []) (codes "alloc::vec::Vec<alloc::string::String>"))
@@ -73,10 +77,14 @@ reduced_of g s p =
     if is_start s p then None
     else Some (record { pop = length p.symbols; nonterminal = unwrap_or (nonterminal_number g p.nonterminal) 0 })
 
+-- what a production of a number would do
+abbrev pub simulated_line : Grammar → Start → ℕ → Production → Item
+simulated_line g s n p = simulated n (reduced_of g s p)
+
 -- the productions of a simulation, from a number on
 abbrev pub simulated_from : Grammar → Start → ℕ → List Production → List Item
 simulated_from g s n [] = []
-simulated_from g s n (p ∷ ps) = simulated n (reduced_of g s p) ∷ simulated_from g s (n + 1) ps
+simulated_from g s n (p ∷ ps) = simulated_line g s n p ∷ simulated_from g s (n + 1) ps
 
 abbrev pub index_parameter : Grammar → List Lr1State → List ℕ
 index_parameter g states = g.prefix ++ (codes "reduce_index: " ++ state_text g states)
@@ -86,7 +94,7 @@ simulated_answer g =
     g.prefix ++ (codes "state_machine::SimulatedReduce<" ++ (g.prefix ++ (codes "StateMachine<" ++ (machine_generics_text g ++ codes ">>"))))
 
 -- what a reduction would do
-abbrev pub simulation : Grammar → List Lr1State → Start → List Item
+unfoldable pub simulation : Grammar → List Lr1State → Start → List Item
 simulation g states s =
     over part.SimulateReduce []
     (machine_header g name.SimulateReduce (index_parameter g states ∷ phantom_parameter g ∷ []) (simulated_answer g) ++ simulated_from g s 0 (productions_of g))
@@ -98,11 +106,11 @@ error_state_parameter g states = g.prefix ++ (codes "error_state: Option<" ++ (s
 abbrev pub integer_parameter : Grammar → List ℕ
 integer_parameter g = g.prefix ++ codes "opt_integer: Option<usize>"
 
-abbrev pub acceptance : Grammar → List Lr1State → List Item
+unfoldable pub acceptance : Grammar → List Lr1State → List Item
 acceptance g states =
     over part.Accepts (phantom_text g ∷ [])
     (machine_header g name.Accepts (error_state_parameter g states ∷ states_parameter g states ∷ integer_parameter g ∷ phantom_parameter g ∷ []) (codes "bool"))
 
 -- the call of the driver
-abbrev pub drive_call : Grammar → List Item
+unfoldable pub drive_call : Grammar → List Item
 drive_call g = over part.Drive (phantom_text g ∷ []) (text_rows part.DriveRow (names_of g))

@@ -63,7 +63,7 @@ produced_of g s p =
     else Some (record { variant = variant_text (unwrap_or (slice_get (nonterminal_variants g) (left_number g p)) 0); nonterminal = left_number g p })
 
 -- the lines of a reduction
-abbrev pub reduction_body : Grammar → Start → Production → List Item
+unfoldable pub reduction_body : Grammar → Start → Production → List Item
 reduction_body g s p =
     over part.ReduceBody []
     ((((assert_lines (length (symbol_variants g p)) ++ pop_lines 0 (symbol_variants g p)) ++ span_of (length (symbol_variants g p)))
@@ -106,7 +106,7 @@ reduce_header g states s =
     grammar_header g name.Reduce [] (action_parameter g states ∷ lookahead_parameter g ∷ stack_parameter g states ∷ symbols_parameter g ∷ phantom_parameter g ∷ []) (reduce_answer g s)
 
 -- the function that reduces by any production
-abbrev pub reduce_function : Grammar → List Lr1State → Start → List Item
+unfoldable pub reduce_function : Grammar → List Lr1State → Start → List Item
 reduce_function g states s = over part.Reduce [] (reduce_header g states s ++ arms_from g s 0 (productions_of g))
 
 -- the function of a production, if it has one
@@ -135,8 +135,8 @@ pops_from g n [] = []
 pops_from g n (ty ∷ types) = pop_function g n ty ++ pops_from g (n + 1) types
 
 -- all of both
-abbrev pub pop_functions : Grammar → List Item
+unfoldable pub pop_functions : Grammar → List Item
 pop_functions g = pops_from g 0 (variant_types g)
 
-abbrev pub reduce_functions : Grammar → Start → List Item
+unfoldable pub reduce_functions : Grammar → Start → List Item
 reduce_functions g s = functions_from g s 0 (productions_of g)

@@ -21,16 +21,16 @@ use Rattle.lp_parts.specs.declared.gotos.StateRange.{StateRange}
 use Rattle.lp_table.specs.Starts.{state_text}
 
 -- the entries by state and terminal, in one list
-abbrev pub action_table : Grammar → List Lr1State → List Item
+unfoldable pub action_table : Grammar → List Lr1State → List Item
 action_table g states =
     (part.ActionTable, state_text g states ∷ [], action_entries (length (terminals_of g)) states, 0) ∷ []
 
 -- the entries by state at the end of input
-abbrev pub end_table : Grammar → List Lr1State → List Item
+unfoldable pub end_table : Grammar → List Lr1State → List Item
 end_table g states = (part.EofTable, state_text g states ∷ [], end_entries states, 0) ∷ []
 
 -- where an entry stands among them
-abbrev pub action_lookup : Grammar → List Lr1State → List Item
+unfoldable pub action_lookup : Grammar → List Lr1State → List Item
 action_lookup g states =
     if length (terminals_of g) == 1 then leaf part.ActionLookupOne (state_text g states ∷ [])
     else leaf part.ActionLookup (state_text g states ∷ decimal (length (terminals_of g)) ∷ [])
@@ -77,7 +77,7 @@ gotos_from states n (name ∷ names) =
     gotos_lines n (arms_of (column_from n 0 states)) ++ gotos_from states (n + 1) names
 
 -- the goto function
-abbrev pub goto_function : Grammar → List Lr1State → List Item
+unfoldable pub goto_function : Grammar → List Lr1State → List Item
 goto_function g states = over part.GotoFn (state_text g states ∷ []) (gotos_from states 0 (nonterminals_of g))
 
 -- the name of a terminal that isn't the error terminal
@@ -86,7 +86,7 @@ terminal_name (Quoted text) = terminal_text (Quoted text) ∷ []
 terminal_name (Bare name) = terminal_text (Bare name) ∷ []
 terminal_name Error = []
 
-abbrev pub terminal_lines : List TerminalString → List Item
+unfoldable pub terminal_lines : List TerminalString → List Item
 terminal_lines terminals = over part.TerminalList [] (text_rows part.TerminalRow (flat_map terminal_name terminals))
 
 abbrev pub terminal_names : Grammar → List Item

@@ -54,7 +54,7 @@ integer_rows g n (t ∷ ts) = integer_row n (get terminal_cmp g.conversions t) +
 abbrev pub token_reference : Grammar → List ℕ
 token_reference g = g.prefix ++ (codes "token: &" ++ token_text g)
 
-abbrev pub token_numbers : Grammar → List Item
+unfoldable pub token_numbers : Grammar → List Item
 token_numbers g =
     over part.TokenToInteger []
     (token_header g name.TokenToInteger (token_reference g ∷ phantom_parameter g ∷ []) (codes "Option<usize>") ++ integer_rows g 0 (terminals_of g))
@@ -132,7 +132,7 @@ token_value g = g.prefix ++ (codes "token: " ++ token_text g)
 abbrev pub symbols_header : Grammar → List Item
 symbols_header g = token_header g name.TokenToSymbol (token_index g ∷ token_value g ∷ phantom_parameter g ∷ []) (symbol_text g)
 
-abbrev pub token_symbols : Grammar → List Item
+unfoldable pub token_symbols : Grammar → List Item
 token_symbols g =
     over part.TokenToSymbol []
     (symbols_header g

@@ -20,6 +20,7 @@ use lp_tree::{Node, Piece};
 use std::alloc::{AllocError, Global};
 
 /// Adds the uses of a grammar as a module inside has them, and the standard uses.
+#[tactic(auto, unfolding(crate::specs::FrameLines::inner_uses))]
 pub fn add_inner_uses<'t>(
     alloc: Global,
     below: &mut Vec<Node<'t>>,
@@ -124,6 +125,7 @@ pub fn parser_with<'t>(
 }
 
 /// The parser by tables, with this body of its `parse` method.
+#[tactic(auto, unfolding(crate::specs::FrameLines::table_parser))]
 pub fn table_parser<'t>(
     alloc: Global,
     shared: &Shared<'t>,

@@ -1,13 +1,13 @@
 //! The struct that the driver asks, and what it needs for expected lists.
 
-ghost use Rattle.std.specs.Prelude.{◌≡◌, ◌∷◌, ◌++◌, [], map, option_map, string_bytes, IfOk};
+ghost use Rattle.std.specs.Prelude.{◌≡◌, map, IfOk};
 ghost use Rattle.std.specs.Map.Iter.{deref};
 ghost use Rattle.lp_build.specs.Machine.{field_row, simulate_row};
 ghost use Rattle.lp_build.specs.Tables.{variant_row};
 ghost use Rattle.lp_repr.specs.Shown.{parameter_text};
 ghost use Rattle.lp_repr.specs.ShownTypes.{clause_text};
 ghost use Rattle.lp_table.specs.Headers.{header_lines};
-ghost use Rattle.lp_table.specs.MachineLines.{acceptance, definition, drive_call, error_state_parameter, expected_list, implementation, index_parameter, integer_parameter, phantom_parameter, recovery_variant, reduced_of, simulated_answer, simulated_from, simulation, states_parameter, symbol_values, variant_rows};
+ghost use Rattle.lp_table.specs.MachineLines.{acceptance, definition, drive_call, error_state_parameter, expected_list, implementation, index_parameter, integer_parameter, phantom_parameter, recovery_variant, reduced_of, simulated_answer, simulated_from, simulated_line, simulation, states_parameter, symbol_values, variant_line, variant_rows};
 ghost use Rattle.lp_table.specs.Machines.{IsMachineOf, field_line};
 ghost use Rattle.lp_table.specs.Starts.{start_of};
 ghost use Rattle.lp_tree.specs.ProgramTree.{items};
@@ -76,6 +76,7 @@ fn parameter_copies<'t>(
 }
 
 /// The values of symbols.
+#[tactic(auto, unfolding(crate::specs::MachineLines::symbol_values))]
 pub fn symbol_values<'t>(alloc: Global, shared: &Shared<'t>) -> Result<Node<'t>, AllocError>
     ensures { IfOk result (λ n. items n ≡ symbol_values shared.now.grammar.now) }
 {
@@ -98,7 +99,7 @@ fn variants_of<'t>(alloc: Global, types: &[&TypeRepr]) -> Result<Vec<Variant<'t>
 
 /// The variant of a type.
 fn variant_for<'t>(alloc: Global, number: usize, ty: &TypeRepr) -> Result<Variant<'t>, AllocError>
-    ensures { IfOk result (λ v. variant_row v ∷ [] ≡ variant_rows number (ty.now ∷ [])) }
+    ensures { IfOk result (λ v. variant_row v ≡ variant_line number ty.now) }
 {
     let name = variant_name(alloc, number)?;
     let ty = piece_of(alloc, ty)?;
@@ -106,6 +107,7 @@ fn variant_for<'t>(alloc: Global, number: usize, ty: &TypeRepr) -> Result<Varian
 }
 
 /// The struct.
+#[tactic(auto, unfolding(crate::specs::MachineLines::definition))]
 pub fn definition<'t>(
     alloc: Global,
     shared: &Shared<'t>,
@@ -142,6 +144,7 @@ fn field_of<'t>(alloc: Global, parameter: &Parameter) -> Result<Field<'t>, Alloc
 }
 
 /// What the driver asks the struct.
+#[tactic(auto, unfolding(crate::specs::MachineLines::implementation))]
 pub fn implementation<'t>(
     alloc: Global,
     shared: &Shared<'t>,
@@ -182,6 +185,7 @@ fn recovery_variant<'t>(alloc: Global, shared: &Shared<'t>) -> Result<Option<Nam
 }
 
 /// The terminals that a stack of states accepts.
+#[tactic(auto, unfolding(crate::specs::MachineLines::expected_list))]
 pub fn expected_list<'t>(
     alloc: Global,
     shared: &Shared<'t>,
@@ -217,6 +221,7 @@ pub fn phantom_parameter<'t>(alloc: Global, shared: &Shared<'t>) -> Result<Piece
 }
 
 /// What a reduction would do.
+#[tactic(auto, unfolding(crate::specs::MachineLines::simulation))]
 pub fn simulation<'t>(
     alloc: Global,
     shared: &Shared<'t>,
@@ -255,7 +260,7 @@ fn simulate_arm<'t>(
     number: usize,
     production: &Production,
 ) -> Result<SimulateArm<'t>, AllocError>
-    ensures { IfOk result (λ a. simulate_row a ∷ [] ≡ simulated_from shared.now.grammar.now (start_of shared.now.start) number (production.now ∷ [])) }
+    ensures { IfOk result (λ a. simulate_row a ≡ simulated_line shared.now.grammar.now (start_of shared.now.start) number production.now) }
 {
     Ok(SimulateArm {
         production: number as u64,
@@ -306,6 +311,7 @@ pub fn reduced(shared: &Shared<'_>, production: &Production) -> Option<Reduced>
 }
 
 /// Whether a stack of states accepts a token.
+#[tactic(auto, unfolding(crate::specs::MachineLines::acceptance))]
 pub fn acceptance<'t>(
     alloc: Global,
     shared: &Shared<'t>,
@@ -342,6 +348,7 @@ fn integer_parameter<'t>(alloc: Global, shared: &Shared<'t>) -> Result<Piece<'t>
 }
 
 /// The call of the driver.
+#[tactic(auto, unfolding(crate::specs::MachineLines::drive_call))]
 pub fn drive_call<'t>(alloc: Global, shared: &Shared<'t>) -> Result<Node<'t>, AllocError>
     ensures { IfOk result (λ n. items n ≡ drive_call shared.now.grammar.now) }
 {

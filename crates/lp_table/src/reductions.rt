@@ -32,6 +32,7 @@ fn is_called(shared: &Shared<'_>, production: &Production) -> bool
 }
 
 /// The function that reduces by any production.
+#[tactic(auto, unfolding(crate::specs::ReductionLines::reduce_function))]
 pub fn reduce_function<'t>(alloc: Global, shared: &Shared<'t>) -> Result<Node<'t>, AllocError>
     ensures { IfOk result (λ n. items n ≡ reduce_function shared.now.grammar.now shared.now.states.now (start_of shared.now.start)) }
 {
@@ -135,6 +136,7 @@ fn reduce_answer<'t>(alloc: Global, shared: &Shared<'t>) -> Result<Piece<'t>, Al
 }
 
 /// Adds the function of each production that has one.
+#[tactic(auto, unfolding(crate::specs::ReductionLines::reduce_functions))]
 pub fn add_reduce_functions<'t>(
     alloc: Global,
     nodes: &mut Vec<Node<'t>>,
@@ -205,6 +207,7 @@ fn own_header<'t>(alloc: Global, shared: &Shared<'t>, number: usize) -> Result<N
 }
 
 /// The lines of a reduction.
+#[tactic(auto, unfolding(crate::specs::ReductionLines::reduction_body))]
 fn body<'t>(
     alloc: Global,
     shared: &Shared<'t>,
@@ -340,6 +343,7 @@ fn left_number(shared: &Shared<'_>, production: &Production) -> usize
 }
 
 /// Adds the function that takes a symbol, for each variant.
+#[tactic(auto, unfolding(crate::specs::ReductionLines::pop_functions))]
 pub fn add_pops<'t>(
     alloc: Global,
     nodes: &mut Vec<Node<'t>>,

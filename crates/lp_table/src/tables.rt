@@ -23,6 +23,7 @@ use lp_tree::{Node, Piece, RowNote};
 use std::alloc::{AllocError, Global};
 
 /// Adds the table of actions by state and terminal, and its look-up.
+#[tactic(auto, unfolding(crate::specs::TableLines::action_lookup))]
 pub fn add_action_table<'t>(
     alloc: Global,
     nodes: &mut Vec<Node<'t>>,
@@ -38,6 +39,7 @@ pub fn add_action_table<'t>(
 }
 
 /// The table of actions by state and terminal.
+#[tactic(auto, unfolding(crate::specs::TableLines::action_table))]
 fn action_entries<'t>(alloc: Global, shared: &Shared<'t>) -> Result<Node<'t>, AllocError>
     requires { All EntriesFit shared.now.states.now }
     ensures { IfOk result (λ n. items n ≡ action_table shared.now.grammar.now shared.now.states.now) }
@@ -145,6 +147,7 @@ pub fn item_lines<'t>(
 }
 
 /// The table of actions at the end of input.
+#[tactic(auto, unfolding(crate::specs::TableLines::end_table))]
 pub fn end_table<'t>(alloc: Global, shared: &Shared<'t>) -> Result<Node<'t>, AllocError>
     requires { All EntriesFit shared.now.states.now }
     ensures { IfOk result (λ n. items n ≡ end_table shared.now.grammar.now shared.now.states.now) }
@@ -173,6 +176,7 @@ fn end_notes<'t>(
 }
 
 /// The goto function.
+#[tactic(auto, unfolding(crate::specs::TableLines::goto_function))]
 pub fn goto_function<'t>(alloc: Global, shared: &Shared<'t>) -> Result<Node<'t>, AllocError>
     ensures { IfOk result (λ n. items n ≡ goto_function shared.now.grammar.now shared.now.states.now) }
 {
@@ -193,7 +197,6 @@ pub fn goto_function<'t>(alloc: Global, shared: &Shared<'t>) -> Result<Node<'t>,
 }
 
 /// Adds the arm of a nonterminal, if a state has a goto on it.
-#[tactic(auto, using(std::proofs::lemmas::Grind::common_steps, crate::proofs::CatchAll::printed_is))]
 fn push_gotos<'t>(
     alloc: Global,
     nodes: &mut Vec<Node<'t>>,
@@ -281,6 +284,7 @@ fn printed_ranges(
 }
 
 /// The names of the terminals but the error terminal.
+#[tactic(auto, unfolding(crate::specs::TableLines::terminal_lines))]
 pub fn terminal_names<'t>(alloc: Global, terminals: &TerminalSet) -> Result<Node<'t>, AllocError>
     ensures { IfOk result (λ n. items n ≡ terminal_lines terminals.now.all) }
 {

@@ -67,6 +67,7 @@ pub fn capture_names(alloc: Global, prefix: &str, captures: usize) -> Result<Str
 }
 
 /// The number of a token's terminal.
+#[tactic(auto, unfolding(crate::specs::TokenLines::token_numbers))]
 pub fn token_numbers<'t>(alloc: Global, shared: &Shared<'t>) -> Result<Node<'t>, AllocError>
     ensures { IfOk result (λ n. items n ≡ token_numbers shared.now.grammar.now) }
 {
@@ -310,6 +311,7 @@ fn group_patterns<'t>(
 }
 
 /// The value of a token.
+#[tactic(auto, unfolding(crate::specs::TokenLines::token_symbols))]
 pub fn token_symbols<'t>(alloc: Global, shared: &Shared<'t>) -> Result<Node<'t>, AllocError>
     ensures { IfOk result (λ n. items n ≡ token_symbols shared.now.grammar.now) }
 {
