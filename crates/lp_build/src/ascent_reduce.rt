@@ -123,6 +123,7 @@ pub fn reduce_arm<'t>(
 }
 
 /// The tokens of a reduction: those but the last, and the last one.
+#[tactic(auto, using(std::proofs::lemmas::Grind::common_steps, crate::proofs::Tokens::first_part_none, crate::proofs::Tokens::first_holes_none, crate::proofs::Tokens::more_tokens_none))]
 fn token_lines<'t>(
     alloc: Global,
     tokens: Vec<Piece<'t>>,

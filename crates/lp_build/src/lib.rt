@@ -142,6 +142,7 @@ fn add_if<'t>(alloc: Global, node: &mut Node<'t>, asked: bool, part: Part) -> Re
 }
 
 /// Takes the first of the nodes, if there is one, and puts it below the node.
+#[tactic(auto, using(std::proofs::lemmas::Grind::common_steps, crate::proofs::Nodes::first_parts_none))]
 fn add_next<'t>(node: &mut Node<'t>, nodes: &mut VecDeque<Node<'t>>) -> Result<(), AllocError>
     ensures head { head node.new ≡ head node.old }
     ensures below { OnOk result (parts_below node.new ≡ parts_below node.old ++ first_parts nodes.old.items) }
