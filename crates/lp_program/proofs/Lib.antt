@@ -1,3 +1,5 @@
+pub mod Cursors
+pub mod Counting
 pub mod Forests
 pub mod Printing
 pub mod Progress

@@ -4,3 +4,5 @@ pub mod TableRows
 pub mod OwnLines
 pub mod Printed
 pub mod Places
+pub mod Counting
+pub mod Cursors

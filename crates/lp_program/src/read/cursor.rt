@@ -1,168 +1,252 @@
 //! The place of a reader in its text.
 
-ghost use Rattle.std.specs.Prelude.{◌≡◌, ◌<◌, ◌≤◌, length};
+ghost use Rattle.std.specs.Prelude.{◌≡◌, ◌<◌, ◌≤◌, ◌+◌, ◌++◌, ◌==◌, length, take, drop, IsSome};
+ghost use Rattle.std.specs.Str.{IsCharBoundary, trim_start};
+ghost use Rattle.lp_program.specs.Counting.{line_len, front_line, behind_line, feeds, is_skipped, settled, IsLineAt};
+ghost use Rattle.lp_program.specs.Cursors.{left};
 
-/// A place in a text: where what was read ends, and the next line that counts.
-#[derive(Clone, Copy)]
-pub(crate) struct Cursor<'t> {
-    text: &'t str,
-    /// Where the reading goes on, and the number of the line there, from 1.
-    raw: usize,
-    raw_line: usize,
-    /// The next line that counts, without the blanks in front, and where it starts; at the end of
-    /// the text there is none.
-    line: Option<&'t str>,
-    start: usize,
-    number: usize,
+/// Whether a byte is a line feed.
+fn ends_line(byte: u8) -> bool
+    ensures { result ≡ (byte == 10) }
+{
+    byte == b'\n'
 }
 
 /// Where the line ends that goes on at a place: the place of its line feed, or the length.
+#[tactic(auto, using(crate::proofs::Counting::line_steps))]
 pub(crate) fn line_end(text: &[u8], from: usize) -> usize
-    ensures { result ≤ length text.now }
+    requires { from ≤ length text.now }
+    ensures place { result ≡ from + line_len (drop from text.now) }
+    ensures bound { result ≤ length text.now }
 {
     for at in from..text.len() {
-        if text[at] == b'\n' {
+        if ends_line(text[at]) {
             return at;
         }
     }
     text.len()
 }
 
+/// How many lines end before a place, from another on where so many end before that.
+#[tactic(auto, using(crate::proofs::Counting::feed_steps))]
+fn lines_ended(text: &[u8], from: usize, ended: usize, place: usize) -> usize
+    requires from { from ≤ place }
+    requires place { place ≤ length text.now }
+    requires ended { ended ≡ feeds (take from text.now) }
+    ensures { result ≡ feeds (take place text.now) }
+{
+    let mut count = ended;
+    for at in from..place {
+        if ends_line(text[at]) {
+            count += 1;
+        }
+    }
+    count
+}
+
 /// A line that counts for nothing: empty, or a comment.
-fn is_skipped(line: &str) -> bool {
-    line.is_empty() || line.starts_with("//")
+fn is_skipped(line: &[u8]) -> bool
+    ensures { result ≡ is_skipped line.now }
+{
+    line.is_empty() || line.starts_with(b"//")
+}
+
+/// A line without the blanks in front, where it then starts, and where it ends.
+#[derive(Clone, Copy)]
+struct Shown<'t> {
+    line: &'t str,
+    start: usize,
+    end: usize,
+}
+
+/// The line that goes on at a place.
+fn shown_at<'t>(text: &'t str, from: usize) -> Shown<'t>
+    requires { IsCharBoundary text.now from }
+    ensures line { result.line.now ≡ trim_start (front_line (drop from text.now)) }
+    ensures start { drop result.start text.now ≡ result.line.now ++ drop (line_len (drop from text.now)) (drop from text.now) }
+    ensures start_in { IsCharBoundary text.now result.start }
+    ensures same_line { feeds (take result.start text.now) ≡ feeds (take from text.now) }
+    ensures end { result.end ≡ from + line_len (drop from text.now) }
+    ensures end_in { result.end ≤ length text.now }
+{
+    let end = line_end(text.as_bytes(), from);
+    let (_, rest) = text.split_at(from);
+    let (whole, _) = rest.split_at(end - from);
+    let line = whole.trim_start();
+    Shown {
+        line,
+        start: end - line.len(),
+        end,
+    }
+}
+
+/// Where the next line that counts starts, behind its blanks, and how many lines end before that;
+/// the length, where there is none.
+fn settle(text: &str, from: usize, ended: usize) -> (usize, usize)
+    requires from { IsCharBoundary text.now from }
+    requires ended { ended ≡ feeds (take from text.now) }
+    ensures start { drop result.0 text.now ≡ settled (drop from text.now) }
+    ensures start_in { IsCharBoundary text.now result.0 }
+    ensures before { result.1 ≡ feeds (take result.0 text.now) }
+{
+    let mut at = from;
+    let mut before = ended;
+    while at < text.len() {
+        let shown = shown_at(text, at);
+        if !is_skipped(shown.line.as_bytes()) {
+            return (shown.start, before);
+        }
+        if shown.end >= text.len() {
+            return (text.len(), before);
+        }
+        at = shown.end + 1;
+        before += 1;
+    }
+    (text.len(), before)
+}
+
+/// The line from a place on, if the text doesn't end there.
+fn line_from<'t>(text: &'t str, start: usize) -> Option<&'t str>
+    requires { IsCharBoundary text.now start }
+    ensures { IsLineAt (drop start text.now) result }
+{
+    if start >= text.len() {
+        return None;
+    }
+    let end = line_end(text.as_bytes(), start);
+    let (_, rest) = text.split_at(start);
+    let (line, _) = rest.split_at(end - start);
+    Some(line)
+}
+
+/// A place in a text: where what was read ends, and the next line that counts.
+#[derive(Clone, Copy)]
+pub(crate) struct Cursor<'t> {
+    text: &'t str,
+    /// Where the reading goes on, and how many lines end before that.
+    raw: usize,
+    ended: usize,
+    /// Where the next line that counts starts, without its blanks, and how many lines end before
+    /// that; at the end of the text, its length.
+    start: usize,
+    before: usize,
+    /// That line.
+    line: Option<&'t str>,
+    ghost raw_in: { IsCharBoundary text.now raw },
+    ghost raw_ended: { ended ≡ feeds (take raw text.now) },
+    ghost start_in: { IsCharBoundary text.now start },
+    ghost start_is: { drop start text.now ≡ settled (drop raw text.now) },
+    ghost start_ended: { before ≡ feeds (take start text.now) },
+    ghost line_is: { IsLineAt (drop start text.now) line },
+}
+
+/// A place in a text before which so many lines end.
+fn placed<'t>(text: &'t str, raw: usize, ended: usize) -> Cursor<'t>
+    requires raw { IsCharBoundary text.now raw }
+    requires ended { ended ≡ feeds (take raw text.now) }
+    ensures text { result.text.now ≡ text.now }
+    ensures raw { result.raw ≡ raw }
+{
+    let (start, before) = settle(text, raw, ended);
+    Cursor {
+        text,
+        raw,
+        ended,
+        start,
+        before,
+        line: line_from(text, start),
+    }
 }
 
 impl<'t> Cursor<'t> {
     /// The front of a text.
-    pub(crate) fn new(text: &'t str) -> Cursor<'t> {
-        Cursor {
-            text,
-            raw: 0,
-            raw_line: 1,
-            line: None,
-            start: 0,
-            number: 1,
-        }
-        .settled()
-    }
-
-    /// The same place, with the next line that counts.
-    fn settled(self) -> Cursor<'t> {
-        let text = self.text;
-        let mut from = self.raw;
-        let mut number = self.raw_line;
-        for _ in 0..text.len() {
-            if from >= text.len() {
-                break;
-            }
-            let end = line_end(text.as_bytes(), from);
-            let line = text.get(from..end).unwrap_or("");
-            let shown = line.trim_start();
-            if !is_skipped(shown) {
-                return Cursor {
-                    text,
-                    raw: self.raw,
-                    raw_line: self.raw_line,
-                    line: Some(shown),
-                    start: end.saturating_sub(shown.len()),
-                    number,
-                };
-            }
-            from = end.saturating_add(1);
-            number = number.saturating_add(1);
-        }
-        Cursor {
-            text,
-            raw: self.raw,
-            raw_line: self.raw_line,
-            line: None,
-            start: text.len(),
-            number,
-        }
+    pub(crate) fn new(text: &'t str) -> Cursor<'t>
+        ensures text { result.text.now ≡ text.now }
+        ensures left { left result ≡ text.now }
+    {
+        placed(text, 0, 0)
     }
 
     /// The next line that counts.
-    pub(crate) fn line(&self) -> Option<&'t str> {
+    pub(crate) fn line(&self) -> Option<&'t str>
+        ensures { IsLineAt (settled (left self.now)) result }
+    {
         self.line
     }
 
-    /// The number of that line, or one past the last line.
-    pub(crate) fn number(&self) -> usize {
-        self.number
+    /// The number of that line, from 1; at the end of the text, one past that of the last line.
+    pub(crate) fn number(&self) -> usize
+        ensures { IsSome self.now.line → result ≡ feeds (take self.now.start self.now.text.now) + 1 }
+    {
+        if self.line.is_some() {
+            self.before.saturating_add(1)
+        } else {
+            self.past_last()
+        }
     }
 
-    /// Where that line starts, without its blanks.
-    pub(crate) fn start(&self) -> usize {
+    /// Where that line starts, without its blanks; at the end of the text, its length.
+    pub(crate) fn start(&self) -> usize
+        ensures start { drop result self.now.text.now ≡ settled (left self.now) }
+        ensures start_in { IsCharBoundary self.now.text.now result }
+    {
         self.start
     }
 
     /// Where the reading goes on.
-    pub(crate) fn raw(&self) -> usize {
+    pub(crate) fn raw(&self) -> usize
+        ensures raw { result ≡ self.now.raw }
+        ensures raw_in { IsCharBoundary self.now.text.now result }
+    {
         self.raw
     }
 
     /// The whole text.
-    pub(crate) fn text(&self) -> &'t str {
+    pub(crate) fn text(&self) -> &'t str
+        ensures { result.now ≡ self.now.text.now }
+    {
         self.text
     }
 
-    /// The number of the line at a place that isn't before the reading's.
-    pub(crate) fn line_at(&self, place: usize) -> usize {
-        let bytes = self.text.as_bytes();
-        let mut number = self.raw_line;
-        for at in self.raw..place.min(bytes.len()) {
-            if bytes[at] == b'\n' {
-                number = number.saturating_add(1);
-            }
-        }
-        number
+    /// The number of the line at a place, from 1.
+    pub(crate) fn line_at(&self, place: usize) -> usize
+        requires { place ≤ length self.now.text.now }
+        ensures { place < length self.now.text.now → result ≡ feeds (take place self.now.text.now) + 1 }
+    {
+        lines_ended(self.text.as_bytes(), 0, 0, place).saturating_add(1)
     }
 
     /// One past the number of the last line.
     pub(crate) fn past_last(&self) -> usize {
-        let mut number = 1usize;
-        let mut in_line = false;
-        for byte in self.text.as_bytes() {
-            if *byte == b'\n' {
-                number = number.saturating_add(1);
-                in_line = false;
-            } else {
-                in_line = true;
-            }
-        }
-        if in_line {
-            number.saturating_add(1)
+        let ended = self.line_at(self.text.len());
+        if self.text.is_empty() || self.text.ends_with("\n") {
+            ended
         } else {
-            number
+            ended.saturating_add(1)
         }
     }
 
     /// The place after the next line that counts.
-    pub(crate) fn after_line(&self) -> Cursor<'t> {
-        let len = self.line.unwrap_or("").len();
-        let end = self.start.saturating_add(len);
-        Cursor {
-            text: self.text,
-            raw: end.saturating_add(1),
-            raw_line: self.number.saturating_add(1),
-            line: None,
-            start: 0,
-            number: 0,
+    pub(crate) fn after_line(&self) -> Cursor<'t>
+        ensures text { result.text.now ≡ self.now.text.now }
+        ensures left { left result ≡ behind_line (settled (left self.now)) }
+    {
+        let end = line_end(self.text.as_bytes(), self.start);
+        if end >= self.text.len() {
+            self.at(self.text.len())
+        } else {
+            placed(self.text, end + 1, self.before + 1)
         }
-        .settled()
     }
 
-    /// The place further on in the text.
-    pub(crate) fn at(&self, place: usize) -> Cursor<'t> {
-        Cursor {
-            text: self.text,
-            raw: place,
-            raw_line: self.line_at(place),
-            line: None,
-            start: 0,
-            number: 0,
-        }
-        .settled()
+    /// A place in the text that isn't before this one.
+    pub(crate) fn at(&self, place: usize) -> Cursor<'t>
+        requires place { IsCharBoundary self.now.text.now place }
+        requires later { self.now.raw ≤ place }
+        ensures text { result.text.now ≡ self.now.text.now }
+        ensures left { left result ≡ drop place self.now.text.now }
+    {
+        let ended = lines_ended(self.text.as_bytes(), self.raw, self.ended, place);
+        placed(self.text, place, ended)
     }
 }

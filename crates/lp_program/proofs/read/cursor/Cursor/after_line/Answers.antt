@@ -1,0 +1,44 @@
+use Rattle.std.proofs.Common.{◌+◌, arith, sym, ap, ◌∙◌, drop, take, subst}
+use Rattle.std.specs.Str.{IsCharBoundary}
+use Rattle.std.proofs.lemmas.List.{drop_all}
+use Rattle.std.proofs.lemmas.Str.{IsCharBoundary-end}
+use Rattle.lp_program.specs.Counting.{feeds}
+use Rattle.lp_program.proofs.Counting.{feeds_le, behind_at, feeds_behind, next_boundary}
+use Rattle.lp_program.proofs.read.cursor.Cursor.after_line.Goals as goal
+
+pub overflow_add-placed : goal.overflow_add-placed
+overflow_add-placed c = let s = c.args.self.now in let a = feeds_le s.text.now s.start in omega (arith, a, s.start_ended, c.line_end.ensures.place)
+
+pub at-requires-place : goal.at-requires-place
+at-requires-place c = IsCharBoundary-end c.args.self.now.text.now
+
+pub placed-requires-raw : goal.placed-requires-raw
+placed-requires-raw c =
+    let s = c.args.self.now in
+    let e = c.line_end.ensures.place in
+    subst (λ i. IsCharBoundary s.text.now (i + 1)) (sym e) (next_boundary s.text.now s.start c.utf8.self.text (omega (arith, e)))
+
+pub placed-requires-ended : goal.placed-requires-ended
+placed-requires-ended c =
+    let s = c.args.self.now in
+    let e = c.line_end.ensures.place in
+    ap (λ n. n + 1) s.start_ended ∙ sym (feeds_behind s.text.now s.start (omega (arith, e))) ∙ ap (λ i. feeds (take (i + 1) s.text.now)) (sym e)
+
+pub returns-then-end-text : goal.returns-then-end-text
+returns-then-end-text c =
+    let s = c.args.self.now in
+    let e = c.line_end.ensures.place in
+    record {
+      text = c.at.ensures.text;
+      left = c.at.ensures.left ∙ drop_all _ s.text.now (omega arith) ∙ sym (behind_at s.text.now _ s.start s.start_is ∙ drop_all _ s.text.now (omega (arith, e)));
+    }
+
+pub returns : goal.returns
+returns c =
+    let s = c.args.self.now in
+    let e = c.line_end.ensures.place in
+    record {
+      text = c.placed.ensures.text;
+      left = ap (λ i. drop i c.placed.result.text.now) c.placed.ensures.raw ∙ ap (λ t. drop (c.line_end.result + 1) t) c.placed.ensures.text
+          ∙ ap (λ i. drop (i + 1) s.text.now) e ∙ sym (behind_at s.text.now _ s.start s.start_is);
+    }
