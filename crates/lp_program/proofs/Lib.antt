@@ -1,6 +1,7 @@
 pub mod Cursors
 pub mod Counting
 pub mod Forests
+pub mod HoleSteps
 pub mod Printing
 pub mod Progress
 pub mod Rows

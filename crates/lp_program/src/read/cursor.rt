@@ -162,7 +162,7 @@ impl<'t> Cursor<'t> {
     /// The front of a text.
     pub(crate) fn new(text: &'t str) -> Cursor<'t>
         ensures text { result.text.now ≡ text.now }
-        ensures left { left result ≡ text.now }
+        ensures rest { left result ≡ text.now }
     {
         placed(text, 0, 0)
     }
@@ -229,7 +229,7 @@ impl<'t> Cursor<'t> {
     /// The place after the next line that counts.
     pub(crate) fn after_line(&self) -> Cursor<'t>
         ensures text { result.text.now ≡ self.now.text.now }
-        ensures left { left result ≡ behind_line (settled (left self.now)) }
+        ensures rest { left result ≡ behind_line (settled (left self.now)) }
     {
         let end = line_end(self.text.as_bytes(), self.start);
         if end >= self.text.len() {
@@ -244,7 +244,7 @@ impl<'t> Cursor<'t> {
         requires place { IsCharBoundary self.now.text.now place }
         requires later { self.now.raw ≤ place }
         ensures text { result.text.now ≡ self.now.text.now }
-        ensures left { left result ≡ drop place self.now.text.now }
+        ensures rest { left result ≡ drop place self.now.text.now }
     {
         let ended = lines_ended(self.text.as_bytes(), self.raw, self.ended, place);
         placed(self.text, place, ended)

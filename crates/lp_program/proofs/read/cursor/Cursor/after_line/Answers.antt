@@ -30,7 +30,7 @@ returns-then-end-text c =
     let e = c.line_end.ensures.place in
     record {
       text = c.at.ensures.text;
-      left = c.at.ensures.left ∙ drop_all _ s.text.now (omega arith) ∙ sym (behind_at s.text.now _ s.start s.start_is ∙ drop_all _ s.text.now (omega (arith, e)));
+      rest = c.at.ensures.rest ∙ drop_all _ s.text.now (omega arith) ∙ sym (behind_at s.text.now _ s.start s.start_is ∙ drop_all _ s.text.now (omega (arith, e)));
     }
 
 pub returns : goal.returns
@@ -39,6 +39,6 @@ returns c =
     let e = c.line_end.ensures.place in
     record {
       text = c.placed.ensures.text;
-      left = ap (λ i. drop i c.placed.result.text.now) c.placed.ensures.raw ∙ ap (λ t. drop (c.line_end.result + 1) t) c.placed.ensures.text
+      rest = ap (λ i. drop i c.placed.result.text.now) c.placed.ensures.raw ∙ ap (λ t. drop (c.line_end.result + 1) t) c.placed.ensures.text
           ∙ ap (λ i. drop (i + 1) s.text.now) e ∙ sym (behind_at s.text.now _ s.start s.start_is);
     }
