@@ -4,6 +4,7 @@ pub mod Forests
 pub mod HoleSteps
 pub mod Printing
 pub mod Progress
+pub mod Reading
 pub mod Rows
 pub mod Runs
 pub mod Spelled

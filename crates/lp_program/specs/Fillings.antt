@@ -1,6 +1,6 @@
 -- What may stand in a hole, by its kind.
-use Rattle.std.specs.Prelude.{◌≡◌, ◌⊎◌, ℕ, zero, suc, ◌+◌, ◌-◌, ◌^◌, Bool, true, false, not, ◌&&◌, ◌||◌, ◌==◌, if◌then◌else◌, nat_lt, nat_eq, List, [], ◌∷◌, length, get_or, take, drop, codes, IsTrue}
-use Rattle.std.specs.List.{list_all, list_any, starts_with, ends_with, prefix_len}
+use Rattle.std.specs.Prelude.{ℕ, zero, suc, ◌+◌, ◌-◌, ◌^◌, Bool, true, false, not, ◌&&◌, ◌||◌, ◌==◌, if◌then◌else◌, nat_lt, nat_eq, List, [], ◌∷◌, length, get_or, take, drop, codes, Option, Some, None, IsTrue, IfSome}
+use Rattle.std.specs.List.{list_all, starts_with, ends_with, prefix_len}
 use Rattle.std.specs.Str.{IsUtf8, is_utf8, bytes_eq}
 use Rattle.std.specs.Str.Parse.{digits_value}
 use Rattle.lp_form.specs.declared.template.Kind.{Kind}
@@ -15,13 +15,15 @@ use Rattle.lp_program.specs.HoleEnds.{is_digit, is_word, place, visibility_len}
 unfoldable pub holds : List ℕ → List ℕ → Bool
 holds sought text = (length sought == 0) || nat_lt (place sought text) (length text)
 
+-- digits with a 0 in front of others
+abbrev pub leads_zero : List ℕ → Bool
+leads_zero text = nat_lt 1 (length text) && (get_or text 0 0 == 48)
+
 -- decimal digits, with no 0 in front of others, of a number below 2^64
 unfoldable pub is_number : List ℕ → Bool
 is_number text =
     nat_lt 0 (length text)
-    && (list_all is_digit text
-    && ((length text == 1 || not (get_or text 0 0 == 48))
-    && nat_lt (digits_value 10 text) (2 ^ 64)))
+    && (list_all is_digit text && (not (leads_zero text) && nat_lt (digits_value 10 text) (2 ^ 64)))
 
 -- an identifier
 abbrev pub is_name : List ℕ → Bool
@@ -96,8 +98,11 @@ abbrev pub is_last : List ℕ → Bool
 is_last text = bytes_eq text (codes "0") || (ends_with nat_eq text (codes " - 1") && is_many (without_end (codes " - 1") text))
 
 -- letters of ASCII, digits and `_`
+abbrev pub is_escape : ℕ → Bool
+is_escape b = is_word b && nat_lt b 128
+
 abbrev pub is_escaped : List ℕ → Bool
-is_escaped text = list_all (λ b. is_word b && nat_lt b 128) text
+is_escaped text = list_all is_escape text
 
 -- names with `, ` after each
 abbrev pub are_parameters : List ℕ → List ℕ → Bool
@@ -157,39 +162,58 @@ unfoldable pub are_filled : List ℕ → List ℕ → Bool
 are_filled prefix text = fits_behind prefix 0 text
 
 -- nothing, `pub `, or `pub(path) `
-abbrev pub IsVisibility : List ℕ → Type 0
-IsVisibility text =
-    IsTrue ((length text == 0) || bytes_eq text (codes "pub "))
-    ⊎ (IsTrue (starts_with nat_eq text (codes "pub(") && (ends_with nat_eq text (codes " ") && (visibility_len text == length text)))
-    × IsOneLine (without_end (codes " ") text))
+abbrev pub is_bare : List ℕ → Bool
+is_bare text = (length text == 0) || bytes_eq text (codes "pub ")
+
+abbrev pub is_visibility : List ℕ → Bool
+is_visibility text = is_bare text || (starts_with nat_eq text (codes "pub(") && (ends_with nat_eq text (codes " ") && (visibility_len text == length text)))
+
+-- what can be told of a hole's text by its bytes
+unfoldable pub has_shape : List ℕ → Kind → List ℕ → Bool
+has_shape prefix kind.Name text = is_name text
+has_shape prefix kind.PlainName text = is_name text && not (holds prefix text)
+has_shape prefix kind.Number text = is_number text
+has_shape prefix kind.NotOne text = is_number text && not (bytes_eq text (codes "1"))
+has_shape prefix kind.Last text = is_last text
+has_shape prefix kind.Escaped text = is_escaped text
+has_shape prefix kind.Attribute text = is_attribute text
+has_shape prefix kind.Terminal text = is_terminal text
+has_shape prefix kind.Literal text = is_literal text
+has_shape prefix kind.Visibility text = is_visibility text
+has_shape prefix kind.Text text = true
+has_shape prefix kind.Generics text = true
+has_shape prefix kind.Filled text = are_filled prefix text
+has_shape prefix kind.Patterns text = are_filled prefix text
+has_shape prefix kind.Pattern text = not (holds prefix text)
+has_shape prefix kind.Result text = not (bytes_eq text (codes "()"))
+has_shape prefix kind.Numbers text = is_joined prefix element.Number (codes " | ") text
+has_shape prefix kind.Ranges text = is_joined prefix element.Range (codes " | ") text
+has_shape prefix kind.Arguments text = is_joined prefix element.Argument (codes ", ") text
+has_shape prefix kind.Argument text = is_argument text
+has_shape prefix kind.Symbols text = is_joined prefix element.Own (codes ", ") text
+has_shape prefix kind.Names text = is_joined prefix element.Own (codes ", ") text
+has_shape prefix kind.Captures text = are_captures prefix text
+has_shape prefix kind.Parameters text = are_parameters prefix text
+has_shape prefix kind.Location text = is_location prefix text
+
+-- a text without a blank at its end
+abbrev pub without_blank : List ℕ → List ℕ
+without_blank text = if ends_with nat_eq text (codes " ") then without_end (codes " ") text else text
+
+-- the part of a hole's text that is a one-line text, where one is asked for
+unfoldable pub line_part : Kind → List ℕ → Option (List ℕ)
+line_part kind.Visibility text = if is_bare text then None else Some (without_blank text)
+line_part kind.Text text = Some text
+line_part kind.Generics text = Some text
+line_part kind.Filled text = Some text
+line_part kind.Patterns text = Some text
+line_part kind.Pattern text = Some text
+line_part kind.Result text = Some text
+line_part _ text = None
 
 -- what may stand in a hole
 unfoldable pub Fits : List ℕ → Kind → List ℕ → Type 0
-Fits prefix kind.Name text = IsTrue (is_identifier text)
-Fits prefix kind.PlainName text = IsTrue (is_identifier text && not (holds prefix text))
-Fits prefix kind.Number text = IsTrue (is_number text)
-Fits prefix kind.NotOne text = IsTrue (is_number text && not (bytes_eq text (codes "1")))
-Fits prefix kind.Last text = IsTrue (is_last text)
-Fits prefix kind.Escaped text = IsTrue (is_escaped text)
-Fits prefix kind.Attribute text = IsTrue (is_attribute text)
-Fits prefix kind.Terminal text = IsTrue (is_terminal text)
-Fits prefix kind.Literal text = IsTrue (is_literal text)
-Fits prefix kind.Visibility text = IsVisibility text
-Fits prefix kind.Text text = IsOneLine text
-Fits prefix kind.Generics text = IsOneLine text
-Fits prefix kind.Filled text = IsOneLine text × IsTrue (are_filled prefix text)
-Fits prefix kind.Patterns text = IsOneLine text × IsTrue (are_filled prefix text)
-Fits prefix kind.Pattern text = IsOneLine text × IsTrue (not (holds prefix text))
-Fits prefix kind.Result text = IsTrue (not (bytes_eq text (codes "()"))) × IsOneLine text
-Fits prefix kind.Numbers text = IsTrue (is_joined prefix element.Number (codes " | ") text)
-Fits prefix kind.Ranges text = IsTrue (is_joined prefix element.Range (codes " | ") text)
-Fits prefix kind.Arguments text = IsTrue (is_joined prefix element.Argument (codes ", ") text)
-Fits prefix kind.Argument text = IsTrue (is_argument text)
-Fits prefix kind.Symbols text = IsTrue (is_joined prefix element.Own (codes ", ") text)
-Fits prefix kind.Names text = IsTrue (is_joined prefix element.Own (codes ", ") text)
-Fits prefix kind.Captures text = IsTrue (are_captures prefix text)
-Fits prefix kind.Parameters text = IsTrue (are_parameters prefix text)
-Fits prefix kind.Location text = IsTrue (is_location prefix text)
+Fits prefix kind text = IsTrue (has_shape prefix kind text) × IfSome (line_part kind text) IsOneLine
 
 -- a text that may stand in a hole
 abbrev pub Fills : List ℕ → Kind → List ℕ → Type 0

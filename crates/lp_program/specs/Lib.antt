@@ -6,3 +6,6 @@ pub mod Printed
 pub mod Places
 pub mod Counting
 pub mod Cursors
+pub mod HoleEnds
+pub mod Fillings
+pub mod LineReading

@@ -1,236 +1,413 @@
-//! What the holes of a line hold, and where they end.
+//! What the holes of a line hold.
 
-ghost use Rattle.std.specs.Prelude.{◌≡◌, ◌<◌, ◌≤◌, length};
+ghost use Rattle.std.specs.Prelude.{◌≡◌, ◌<◌, ◌≤◌, ◌+◌, ◌^◌, ◌↔◌, true, length, take, drop, codes, nat_lt, nat_eq, IsTrue, IfOk, option_copied};
+ghost use Rattle.std.specs.List.{list_all, prefix_len, starts_with, ends_with};
+ghost use Rattle.std.specs.Str.{bytes_eq};
+ghost use Rattle.std.specs.Str.Parse.{digits_value};
+ghost use Rattle.lp_program.specs.HoleEnds as ends;
+ghost use Rattle.lp_program.specs.Fillings as fillings;
 
+use crate::read::ends::{
+    digit_run, is_word, place_in, rest_from, stands_at, visibility_len, word_run,
+};
 use lp_form::Kind;
 use lp_texts::{is_identifier, is_one_line};
 use std::alloc::{AllocError, Global};
 
-pub(crate) fn is_digit(b: u8) -> bool {
-    b >= b'0' && b <= b'9'
-}
-
-/// A letter, a digit, `_`, or a byte of a character beyond ASCII.
-pub(crate) fn is_word(b: u8) -> bool {
-    is_digit(b) || (b >= b'A' && b <= b'Z') || (b >= b'a' && b <= b'z') || b == b'_' || b >= 0x80
-}
-
-/// How many bytes in front are letters, digits, `_` or beyond ASCII.
-pub(crate) fn word_run(text: &[u8]) -> usize
-    ensures { result ≤ length text.now }
+/// Whether two texts are the same.
+fn is_same(text: &[u8], other: &[u8]) -> bool
+    ensures { result ≡ bytes_eq text.now other.now }
 {
-    for (i, b) in text.iter().enumerate() {
-        if !is_word(*b) {
-            return i;
-        }
-    }
-    text.len()
-}
-
-/// How many bytes in front are digits.
-pub(crate) fn digit_run(text: &[u8]) -> usize
-    ensures { result ≤ length text.now }
-{
-    for (i, b) in text.iter().enumerate() {
-        if !is_digit(*b) {
-            return i;
-        }
-    }
-    text.len()
-}
-
-/// How long the names in front are that begin with the prefix, joined by `, `.
-pub(crate) fn own_run(prefix: &str, text: &str) -> usize {
-    let mut len = 0usize;
-    for name in text.split(", ") {
-        if !name.starts_with(prefix) || word_run(name.as_bytes()) != name.len() {
-            return len;
-        }
-        let comma = if len == 0 { 0 } else { 2 };
-        len = len.saturating_add(comma).saturating_add(name.len());
-    }
-    len
-}
-
-/// A number in decimal digits, with no 0 in front of others, that fits 64 bits.
-pub(crate) fn is_number(text: &str) -> bool {
-    let bytes = text.as_bytes();
-    if bytes.is_empty() || digit_run(bytes) != bytes.len() {
-        return false;
-    }
-    if bytes.len() > 1 && bytes[0] == b'0' {
-        return false;
-    }
-    text.parse::<u64>().is_ok()
-}
-
-/// The first place of a text in another from a place on, or the other's length.
-pub(crate) fn place_in(text: &[u8], from: usize, sought: &[u8]) -> usize
-    ensures { result ≤ length text.now }
-{
-    for at in from..text.len() {
-        if text[at..].starts_with(sought) {
-            return at;
-        }
-    }
-    text.len()
+    text == other
 }
 
 /// Whether a text holds another.
-pub(crate) fn holds(text: &str, sought: &str) -> bool {
-    sought.is_empty() || place_in(text.as_bytes(), 0, sought.as_bytes()) < text.len()
-}
-
-/// Nothing, `pub `, or `pub(path) `.
-fn is_visibility(alloc: Global, text: &str) -> Result<bool, AllocError> {
-    if text.is_empty() || text == "pub " {
-        return Ok(true);
-    }
-    let Some(path) = text.strip_suffix(" ") else {
-        return Ok(false);
-    };
-    if !path.starts_with("pub(") {
-        return Ok(false);
-    }
-    Ok(visibility_len(text) == text.len() && is_one_line(alloc, path)?)
-}
-
-/// How long a visibility in front is.
-pub(crate) fn visibility_len(text: &str) -> usize
-    ensures { result ≤ length text.now }
+#[tactic(auto, unfolding(crate::specs::Fillings::holds))]
+fn holds(sought: &[u8], text: &[u8]) -> bool
+    ensures { result ≡ fillings.holds sought.now text.now }
 {
-    let bytes = text.as_bytes();
-    if bytes.starts_with(b"pub ") {
-        return 4;
-    }
-    if !bytes.starts_with(b"pub(") {
-        return 0;
-    }
-    let mut depth = 0usize;
-    for (i, b) in bytes.iter().enumerate() {
-        if *b == b'(' {
-            depth = depth.saturating_add(1);
-        }
-        if *b == b')' {
-            depth = depth.saturating_sub(1);
-            if depth == 0 {
-                return (i + 2).min(bytes.len());
-            }
-        }
-    }
-    0
+    sought.is_empty() || place_in(text, sought) < text.len()
 }
 
-/// Whether a text has no line feed and doesn't hold `"###`.
-fn is_terminal(text: &str) -> bool {
-    !holds(text, "\n") && !holds(text, "\"###")
+/// The front of a text, up to a place.
+fn front_to(text: &[u8], at: usize) -> &[u8]
+    requires { at ≤ length text.now }
+    ensures { result.now ≡ take at text.now }
+{
+    &text[..at]
 }
 
-/// Whether a text is `#![` to `]` on one line.
-fn is_attribute(text: &str) -> bool {
-    text.starts_with("#![") && text.ends_with("]") && !holds(text, "\n")
+/// A text without its end, if it ends so.
+fn off_end<'t>(end: &[u8], text: &'t [u8]) -> &'t [u8]
+    requires { length end.now ≤ length text.now }
+    ensures { result.now ≡ fillings.without_end end.now text.now }
+{
+    front_to(text, text.len() - end.len())
 }
 
-/// Whether a text is a string literal without a line feed.
-fn is_literal(text: &str) -> bool {
-    text.len() > 1 && text.starts_with("\"") && text.ends_with("\"") && !holds(text, "\n")
+/// A text without its front, if it begins so.
+fn off_front<'t>(front: &[u8], text: &'t [u8]) -> &'t [u8]
+    requires { length front.now ≤ length text.now }
+    ensures { result.now ≡ fillings.without_front front.now text.now }
+{
+    rest_from(text, front.len())
 }
 
-/// `0`, or a number above 1 and ` - 1`.
-fn is_last(text: &str) -> bool {
-    if text == "0" {
-        return true;
+/// What stands before the first separator.
+fn part_before<'t>(separator: &[u8], text: &'t [u8]) -> &'t [u8]
+    ensures { result.now ≡ fillings.part_before separator.now text.now }
+{
+    front_to(text, place_in(text, separator))
+}
+
+/// What stands behind the first separator.
+#[tactic(auto, using(crate::proofs::Fitting::place_ends), unfolding(crate::specs::Fillings::holds))]
+fn part_behind<'t>(separator: &[u8], text: &'t [u8]) -> &'t [u8]
+    requires { IsTrue (fillings.holds separator.now text.now) }
+    ensures { result.now ≡ fillings.part_behind separator.now text.now }
+{
+    rest_from(text, place_in(text, separator) + separator.len())
+}
+
+/// Whether all bytes are digits.
+#[tactic(auto, using(crate::proofs::HoleSteps::all_run))]
+fn are_digits(text: &[u8]) -> bool
+    ensures { result ≡ list_all ends.is_digit text.now }
+{
+    digit_run(text) == text.len()
+}
+
+/// Whether the number of some digits fits 64 bits.
+fn fits_word(text: &[u8]) -> bool
+    requires some { 0 < length text.now }
+    requires digits { list_all ends.is_digit text.now ≡ true }
+    ensures { result ≡ nat_lt (digits_value 10 text.now) (2 ^ 64) }
+{
+    match str::from_utf8(text) {
+        Ok(digits) => digits.parse::<u64>().is_ok(),
+        Err(_) => false,
     }
-    match text.strip_suffix(" - 1") {
-        Some(count) => is_number(count) && count != "0" && count != "1",
-        None => false,
+}
+
+/// Whether digits have a 0 in front of others.
+fn leads_zero(text: &[u8]) -> bool
+    ensures { result ≡ fillings.leads_zero text.now }
+{
+    text.len() > 1 && text[0] == b'0'
+}
+
+/// A number in decimal digits, with no 0 in front of others, that fits 64 bits.
+#[tactic(auto, unfolding(crate::specs::Fillings::is_number))]
+pub(crate) fn is_number(text: &[u8]) -> bool
+    ensures { result ≡ fillings.is_number text.now }
+{
+    if text.is_empty() || !are_digits(text) {
+        return false;
+    }
+    !leads_zero(text) && fits_word(text)
+}
+
+/// Whether a text is an identifier.
+fn is_name(text: &[u8]) -> bool
+    ensures { result ≡ fillings.is_name text.now }
+{
+    match str::from_utf8(text) {
+        Ok(name) => is_identifier(name),
+        Err(_) => false,
     }
 }
 
-/// Letters of ASCII, digits and `_`.
-fn is_escaped(text: &str) -> bool {
-    for b in text.as_bytes() {
-        if !is_word(*b) || *b >= 0x80 {
-            return false;
-        }
-    }
-    true
-}
-
-/// A number, or two with `..=` between.
-fn is_range(text: &str) -> bool {
-    match text.split_once("..=") {
-        Some((first, last)) => is_number(first) && is_number(last),
-        None => is_number(text),
-    }
+/// An identifier that begins with the prefix.
+fn is_own(prefix: &[u8], text: &[u8]) -> bool
+    ensures { result ≡ fillings.is_own prefix.now text.now }
+{
+    text.starts_with(prefix) && is_name(text)
 }
 
 /// A name, or `&` and a name.
-fn is_argument(text: &str) -> bool {
-    match text.strip_prefix("&") {
-        Some(name) => is_identifier(name),
-        None => is_identifier(text),
+fn is_argument(text: &[u8]) -> bool
+    ensures { result ≡ fillings.is_argument text.now }
+{
+    if text.starts_with(b"&") {
+        is_name(off_front(b"&", text))
+    } else {
+        is_name(text)
+    }
+}
+
+/// A number, or two with `..=` between.
+fn is_range(text: &[u8]) -> bool
+    ensures { result ≡ fillings.is_range text.now }
+{
+    if holds(b"..=", text) {
+        is_number(part_before(b"..=", text)) && is_number(part_behind(b"..=", text))
+    } else {
+        is_number(text)
     }
 }
 
 /// What the elements of a joined list have to be.
 #[derive(Clone, Copy)]
-enum Element {
+pub(crate) enum Element {
     Number,
     Range,
     Argument,
     Own,
 }
 
-fn is_element(prefix: &str, element: Element, text: &str) -> bool {
+#[tactic(auto, unfolding(crate::specs::Fillings::is_element))]
+fn is_element(prefix: &[u8], element: Element, text: &[u8]) -> bool
+    ensures { result ≡ fillings.is_element prefix.now element text.now }
+{
     match element {
         Element::Number => is_number(text),
         Element::Range => is_range(text),
         Element::Argument => is_argument(text),
-        Element::Own => text.starts_with(prefix) && is_identifier(text),
+        Element::Own => is_own(prefix, text),
     }
 }
 
 /// Whether a text is one element or more with the separator between.
-fn is_joined(prefix: &str, element: Element, separator: &'static str, text: &str) -> bool {
+fn is_joined(prefix: &[u8], element: Element, separator: &[u8], text: &[u8]) -> bool
+    ensures { result ≡ fillings.is_joined prefix.now element separator.now text.now }
+{
     let mut rest = text;
-    for _ in 0..text.len() {
-        match rest.split_once(separator) {
-            Some((first, more)) => {
-                if !is_element(prefix, element, first) {
-                    return false;
-                }
-                rest = more;
-            }
-            None => return is_element(prefix, element, rest),
+    for _i in 0..text.len() {
+        if !holds(separator, rest) {
+            return is_element(prefix, element, rest);
         }
+        if !is_element(prefix, element, part_before(separator, rest)) {
+            return false;
+        }
+        rest = part_behind(separator, rest);
     }
     false
 }
 
-/// Whether a text is names with `, ` after each.
-fn are_parameters(prefix: &str, text: &str) -> bool {
-    if text.is_empty() {
-        return true;
-    }
-    match text.strip_suffix(", ") {
-        Some(names) => {
-            is_joined(prefix, Element::Argument, ", ", names)
-                && !holds(text, prefix)
-                && !holds(text, "&")
+/// Whether a text has no line feed and doesn't hold `"###`.
+fn is_terminal(text: &[u8]) -> bool
+    ensures { result ≡ fillings.is_terminal text.now }
+{
+    !holds(b"\n", text) && !holds(b"\"###", text)
+}
+
+/// Whether a text is `#![` to `]` on one line.
+fn is_attribute(text: &[u8]) -> bool
+    ensures { result ≡ fillings.is_attribute text.now }
+{
+    text.starts_with(b"#![") && (text.ends_with(b"]") && !holds(b"\n", text))
+}
+
+/// Whether a text is a string literal without a line feed.
+fn is_literal(text: &[u8]) -> bool
+    ensures { result ≡ fillings.is_literal text.now }
+{
+    text.len() > 1
+        && (text.starts_with(b"\"") && (text.ends_with(b"\"") && !holds(b"\n", text)))
+}
+
+/// A number above 1.
+fn is_many(count: &[u8]) -> bool
+    ensures { result ≡ fillings.is_many count.now }
+{
+    is_number(count) && (!is_same(count, b"0") && !is_same(count, b"1"))
+}
+
+/// `0`, or a number above 1 and ` - 1`.
+fn is_last(text: &[u8]) -> bool
+    ensures { result ≡ fillings.is_last text.now }
+{
+    is_same(text, b"0") || (text.ends_with(b" - 1") && is_many(off_end(b" - 1", text)))
+}
+
+/// A letter of ASCII, a digit or `_`.
+fn is_escape(byte: u8) -> bool
+    ensures { result ≡ fillings.is_escape byte }
+{
+    is_word(byte) && byte < 0x80
+}
+
+/// Letters of ASCII, digits and `_`.
+fn is_escaped(text: &[u8]) -> bool
+    ensures { result ≡ fillings.is_escaped text.now }
+{
+    for byte in text {
+        if !is_escape(*byte) {
+            return false;
         }
-        None => false,
     }
+    true
+}
+
+/// Whether a text is names with `, ` after each.
+fn are_parameters(prefix: &[u8], text: &[u8]) -> bool
+    ensures { result ≡ fillings.are_parameters prefix.now text.now }
+{
+    text.is_empty()
+        || (text.ends_with(b", ")
+            && (is_joined(prefix, Element::Argument, b", ", off_end(b", ", text))
+                && (!holds(prefix, text) && !holds(b"&", text))))
+}
+
+/// Several captures, before a closing parenthesis.
+fn are_several(prefix: &[u8], text: &[u8]) -> bool
+    ensures { result ≡ fillings.are_several prefix.now text.now }
+{
+    text.ends_with(b")")
+        && (holds(b", ", off_end(b")", text))
+            && is_joined(prefix, Element::Own, b", ", off_end(b")", text)))
 }
 
 /// One capture, or several in parentheses.
-fn are_captures(prefix: &str, text: &str) -> bool {
-    match text.strip_prefix("(") {
-        Some(more) => match more.strip_suffix(")") {
-            Some(names) => holds(names, ", ") && is_joined(prefix, Element::Own, ", ", names),
-            None => false,
-        },
-        None => text.starts_with(prefix) && is_identifier(text),
+fn are_captures(prefix: &[u8], text: &[u8]) -> bool
+    ensures { result ≡ fillings.are_captures prefix.now text.now }
+{
+    if text.starts_with(b"(") {
+        are_several(prefix, off_front(b"(", text))
+    } else {
+        is_own(prefix, text)
+    }
+}
+
+/// `lookbehind` or `lookahead` behind the prefix.
+fn is_look(prefix: &[u8], text: &[u8]) -> bool
+    ensures { result ≡ fillings.is_look prefix.now text.now }
+{
+    text.starts_with(prefix)
+        && (is_same(off_front(prefix, text), b"lookbehind") || is_same(off_front(prefix, text), b"lookahead"))
+}
+
+/// A number, `.`, and `0` or `2`.
+fn is_field(text: &[u8]) -> bool
+    ensures { result ≡ fillings.is_field text.now }
+{
+    holds(b".", text)
+        && (is_number(part_before(b".", text))
+            && (is_same(part_behind(b".", text), b"0") || is_same(part_behind(b".", text), b"2")))
+}
+
+/// `~j.0`, `~j.2`, `*~lookbehind` or `*~lookahead`.
+fn is_location(prefix: &[u8], text: &[u8]) -> bool
+    ensures { result ≡ fillings.is_location prefix.now text.now }
+{
+    if text.starts_with(b"*") {
+        is_look(prefix, off_front(b"*", text))
+    } else {
+        text.starts_with(prefix) && is_field(off_front(prefix, text))
+    }
+}
+
+/// Whether a number stands in front, and no word goes on after it.
+fn is_numbered(text: &[u8]) -> bool
+    ensures { result ≡ fillings.is_numbered text.now }
+{
+    let run = word_run(text);
+    0 < run && digit_run(text) == run
+}
+
+/// Whether `tok` and a number stand in front, and no word goes on after them.
+fn is_capture(text: &[u8]) -> bool
+    ensures { result ≡ fillings.is_capture text.now }
+{
+    text.starts_with(b"tok") && is_numbered(off_front(b"tok", text))
+}
+
+/// Whether the prefix, if it stands in front, is that of a capture, where this byte stands before it.
+fn is_fitting(prefix: &[u8], last: u8, text: &[u8]) -> bool
+    ensures { result ≡ fillings.is_fitting prefix.now last text.now }
+{
+    !text.starts_with(prefix) || (!is_word(last) && is_capture(off_front(prefix, text)))
+}
+
+/// Whether the prefix stands in a text only in the names of captures, apart from other words.
+fn are_filled(prefix: &[u8], text: &[u8]) -> bool
+    ensures { result ≡ fillings.are_filled prefix.now text.now }
+{
+    let mut last = 0u8;
+    for i in 0..text.len() {
+        if !is_fitting(prefix, last, rest_from(text, i)) {
+            return false;
+        }
+        last = text[i];
+    }
+    true
+}
+
+/// Nothing, or `pub `.
+fn is_bare(text: &[u8]) -> bool
+    ensures { result ≡ fillings.is_bare text.now }
+{
+    text.is_empty() || is_same(text, b"pub ")
+}
+
+/// Nothing, `pub `, or `pub(path) `.
+fn is_visibility(text: &[u8]) -> bool
+    ensures { result ≡ fillings.is_visibility text.now }
+{
+    is_bare(text)
+        || (text.starts_with(b"pub(")
+            && (text.ends_with(b" ") && visibility_len(text) == text.len()))
+}
+
+/// What can be told of a hole's text by its bytes.
+#[tactic(auto, unfolding(crate::specs::Fillings::has_shape))]
+fn has_shape(prefix: &[u8], kind: Kind, text: &[u8]) -> bool
+    ensures { result ≡ fillings.has_shape prefix.now kind text.now }
+{
+    match kind {
+        Kind::Name => is_name(text),
+        Kind::PlainName => is_name(text) && !holds(prefix, text),
+        Kind::Number => is_number(text),
+        Kind::NotOne => is_number(text) && !is_same(text, b"1"),
+        Kind::Last => is_last(text),
+        Kind::Escaped => is_escaped(text),
+        Kind::Attribute => is_attribute(text),
+        Kind::Terminal => is_terminal(text),
+        Kind::Literal => is_literal(text),
+        Kind::Visibility => is_visibility(text),
+        Kind::Text | Kind::Generics => true,
+        Kind::Filled | Kind::Patterns => are_filled(prefix, text),
+        Kind::Pattern => !holds(prefix, text),
+        Kind::Result => !is_same(text, b"()"),
+        Kind::Numbers => is_joined(prefix, Element::Number, b" | ", text),
+        Kind::Ranges => is_joined(prefix, Element::Range, b" | ", text),
+        Kind::Arguments => is_joined(prefix, Element::Argument, b", ", text),
+        Kind::Argument => is_argument(text),
+        Kind::Symbols | Kind::Names => is_joined(prefix, Element::Own, b", ", text),
+        Kind::Captures => are_captures(prefix, text),
+        Kind::Parameters => are_parameters(prefix, text),
+        Kind::Location => is_location(prefix, text),
+    }
+}
+
+/// A text without a blank at its end.
+fn without_blank(text: &str) -> &str
+    ensures { result.now ≡ fillings.without_blank text.now }
+{
+    if !text.ends_with(" ") {
+        return text;
+    }
+    let (front, _) = text.split_at(text.len() - 1);
+    front
+}
+
+/// The part of a hole's text that is a one-line text, where one is asked for.
+#[tactic(auto, unfolding(crate::specs::Fillings::line_part))]
+fn line_part(kind: Kind, text: &str) -> Option<&str>
+    ensures { option_copied result ≡ fillings.line_part kind text.now }
+{
+    match kind {
+        Kind::Visibility => {
+            if is_bare(text.as_bytes()) {
+                None
+            } else {
+                Some(without_blank(text))
+            }
+        }
+        Kind::Text | Kind::Generics => Some(text),
+        Kind::Filled | Kind::Patterns => Some(text),
+        Kind::Pattern | Kind::Result => Some(text),
+        _ => None,
     }
 }
 
@@ -240,82 +417,14 @@ pub(crate) fn may_fill(
     prefix: &str,
     kind: Kind,
     text: &str,
-) -> Result<bool, AllocError> {
-    match kind {
-        Kind::Name => Ok(is_identifier(text)),
-        Kind::PlainName => Ok(is_identifier(text) && !holds(text, prefix)),
-        Kind::Number => Ok(is_number(text)),
-        Kind::NotOne => Ok(is_number(text) && text != "1"),
-        Kind::Last => Ok(is_last(text)),
-        Kind::Escaped => Ok(is_escaped(text)),
-        Kind::Attribute => Ok(is_attribute(text)),
-        Kind::Terminal => Ok(is_terminal(text)),
-        Kind::Literal => Ok(is_literal(text)),
-        Kind::Visibility => is_visibility(alloc, text),
-        Kind::Text | Kind::Generics => is_one_line(alloc, text),
-        Kind::Filled | Kind::Patterns => {
-            Ok(is_one_line(alloc, text)? && are_filled(prefix, text))
-        }
-        Kind::Pattern => Ok(is_one_line(alloc, text)? && !holds(text, prefix)),
-        Kind::Result => Ok(text != "()" && is_one_line(alloc, text)?),
-        Kind::Numbers => Ok(is_joined(prefix, Element::Number, " | ", text)),
-        Kind::Ranges => Ok(is_joined(prefix, Element::Range, " | ", text)),
-        Kind::Arguments => Ok(is_joined(prefix, Element::Argument, ", ", text)),
-        Kind::Argument => Ok(is_argument(text)),
-        Kind::Symbols | Kind::Names => Ok(is_joined(prefix, Element::Own, ", ", text)),
-        Kind::Captures => Ok(are_captures(prefix, text)),
-        Kind::Parameters => Ok(are_parameters(prefix, text)),
-        Kind::Location => Ok(is_location(prefix, text)),
+) -> Result<bool, AllocError>
+    ensures { IfOk result (λ b. IsTrue b ↔ fillings.Fits prefix.now kind text.now) }
+{
+    if !has_shape(prefix.as_bytes(), kind, text.as_bytes()) {
+        return Ok(false);
     }
-}
-
-/// `~j.0`, `~j.2`, `*~lookbehind` or `*~lookahead`.
-fn is_location(prefix: &str, text: &str) -> bool {
-    match text.strip_prefix("*") {
-        Some(name) => match name.strip_prefix(prefix) {
-            Some(word) => word == "lookbehind" || word == "lookahead",
-            None => false,
-        },
-        None => match text.strip_prefix(prefix) {
-            Some(place) => match place.split_once(".") {
-                Some((slot, field)) => is_number(slot) && (field == "0" || field == "2"),
-                None => false,
-            },
-            None => false,
-        },
+    match line_part(kind, text) {
+        None => Ok(true),
+        Some(line) => is_one_line(alloc, line),
     }
-}
-
-/// Whether the prefix stands in a text only in the names of captures, apart from other words.
-fn are_filled(prefix: &str, text: &str) -> bool {
-    let bytes = text.as_bytes();
-    let mut at = 0;
-    for _ in 0..bytes.len() {
-        let next = place_in(bytes, at, prefix.as_bytes());
-        if next >= bytes.len() {
-            return true;
-        }
-        if next > 0 && is_word(bytes[next - 1]) {
-            return false;
-        }
-        let end = next.saturating_add(prefix.len());
-        let Some(rest) = text.get(end..) else {
-            return false;
-        };
-        if !is_capture(rest) {
-            return false;
-        }
-        at = next + 1;
-    }
-    true
-}
-
-/// Whether `tok` and a number stand in front, and no word goes on after them.
-fn is_capture(text: &str) -> bool {
-    let Some(rest) = text.strip_prefix("tok") else {
-        return false;
-    };
-    let bytes = rest.as_bytes();
-    let run = word_run(bytes);
-    run > 0 && digit_run(bytes) == run
 }

@@ -1,13 +1,15 @@
 //! Reading a line by its template.
 
-ghost use Rattle.std.specs.Prelude.{◌≡◌, ◌++◌, ◌<◌, ◌≤◌, [], length, map, IfOk, IfSome, vec_len};
+ghost use Rattle.std.specs.Prelude.{◌≡◌, ◌++◌, ◌<◌, ◌≤◌, [], length, map, get_or, option_copied, IfOk, IfSome, vec_len};
 ghost use Rattle.std.specs.Bool.{OnTrue};
 ghost use Rattle.std.specs.Str.{IsUtf8};
 ghost use Rattle.lp_form.specs.declared.template.Slot.TheVariants.{Hole};
 ghost use Rattle.lp_form.specs.Templates.{piece};
 ghost use Rattle.lp_program.specs.Lines.{TakesSlot, TakesParts};
+ghost use Rattle.lp_program.specs.LineReading.{after, kind_of, new_at, slot_at, line_at, ReadsSlot, ReadsLine};
 
-use crate::read::fill::{digit_run, may_fill, own_run, visibility_len, word_run};
+use crate::read::ends::hole_len;
+use crate::read::fill::may_fill;
 use lp_form::template::Piece as LinePart;
 use lp_form::{Kind, Slot};
 use lp_tree::piece::Piece;
@@ -22,138 +24,11 @@ pub(crate) struct Scope<'s> {
     pub(crate) kinds: &'static [Kind],
 }
 
-/// How many bytes the text of a slot has; None for a hole that isn't known.
-fn slot_len(scope: Scope<'_>, known: &[Piece<'_>], slot: Slot) -> Option<usize> {
-    match slot {
-        Slot::Nothing => Some(0),
-        Slot::Prefix => Some(scope.prefix.len()),
-        Slot::Hole(k) => {
-            if k < known.len() {
-                Some(known[k].as_str().len())
-            } else {
-                None
-            }
-        }
-    }
-}
-
-/// How long a hole is where nothing else is left to be told in the line: its share of what the
-/// parts leave. None where another hole isn't known.
-fn share(
-    scope: Scope<'_>,
-    k: usize,
-    parts: &[LinePart],
-    known: &[Piece<'_>],
-    len: usize,
-) -> Option<usize> {
-    let mut left = len;
-    let mut times = 1usize;
-    for part in parts {
-        left = left.checked_sub(part.0.len())?;
-        match slot_len(scope, known, part.1) {
-            Some(n) => left = left.checked_sub(n)?,
-            None => {
-                if is_other(k, part.1) {
-                    return None;
-                }
-                times = times.saturating_add(1);
-            }
-        }
-    }
-    if times == 0 { None } else { Some(left / times) }
-}
-
-/// Whether a slot is another hole.
-fn is_other(k: usize, slot: Slot) -> bool {
-    match slot {
-        Slot::Hole(j) => j != k,
-        _ => false,
-    }
-}
-
-/// Whether the parts go on at the front of the text: a literal text, and, where the prefix follows,
-/// the prefix and the next literal text.
-fn goes_on(prefix: &[u8], parts: &[LinePart], text: &[u8]) -> bool {
-    let Some((literal, slot)) = parts.first() else {
-        return text.is_empty();
-    };
-    if !text.starts_with(literal.as_bytes()) {
-        return false;
-    }
-    match slot {
-        Slot::Prefix => {
-            let rest = &text[literal.len()..];
-            rest.starts_with(prefix) && second_goes_on(parts, &rest[prefix.len()..])
-        }
-        _ => true,
-    }
-}
-
-/// Whether the second literal text stands at the front of the text.
-fn second_goes_on(parts: &[LinePart], text: &[u8]) -> bool {
-    if parts.len() < 2 {
-        return true;
-    }
-    text.starts_with(parts[1].0.as_bytes())
-}
-
-/// The first place where the parts go on, or the length.
-fn first_place(prefix: &[u8], parts: &[LinePart], text: &[u8]) -> usize
-    ensures { result ≤ length text.now }
-{
-    for i in 0..text.len() {
-        if goes_on(prefix, parts, &text[i..]) {
-            return i;
-        }
-    }
-    text.len()
-}
-
-/// The last place where the parts go on, or the length.
-fn last_place(prefix: &[u8], parts: &[LinePart], text: &[u8]) -> usize
-    ensures { result ≤ length text.now }
-{
-    let mut last = text.len();
-    for i in 0..text.len() {
-        if goes_on(prefix, parts, &text[i..]) {
-            last = i;
-        }
-    }
-    last
-}
-
-/// How long a hole is at the front of the text, before the parts.
-fn hole_len(
-    scope: Scope<'_>,
-    k: usize,
-    kind: Kind,
-    parts: &[LinePart],
-    known: &[Piece<'_>],
-    text: &str,
-) -> usize {
-    if let Some(n) = share(scope, k, parts, known, text.len()) {
-        return n;
-    }
-    let bytes = text.as_bytes();
-    match kind {
-        Kind::Name | Kind::PlainName | Kind::Escaped => word_run(bytes),
-        Kind::Number | Kind::NotOne => digit_run(bytes),
-        Kind::Visibility => visibility_len(text),
-        Kind::Symbols => own_run(scope.prefix, text),
-        Kind::Pattern | Kind::Patterns | Kind::Generics => {
-            last_place(scope.prefix.as_bytes(), parts, bytes)
-        }
-        _ => first_place(scope.prefix.as_bytes(), parts, bytes),
-    }
-}
-
 /// The kind of a hole.
-fn kind_of(scope: Scope<'_>, k: usize) -> Kind {
-    if k < scope.kinds.len() {
-        scope.kinds[k]
-    } else {
-        Kind::Text
-    }
+fn kind_of(kinds: &[Kind], k: usize) -> Kind
+    ensures { result ≡ kind_of kinds.now k }
+{
+    if k < kinds.len() { kinds[k] } else { Kind::Text }
 }
 
 /// The text after its front, if it begins so.
@@ -161,6 +36,7 @@ fn kind_of(scope: Scope<'_>, k: usize) -> Kind {
 fn after_front<'t>(front: &str, text: &'t str) -> Option<&'t str>
     ensures spelled { IfSome result (λ rest. text.now ≡ front.now ++ rest.now) }
     ensures text { IfSome result (λ rest. IsUtf8 rest.now) }
+    ensures exact { option_copied result ≡ after front.now text.now }
 {
     text.strip_prefix(front)
 }
@@ -176,9 +52,10 @@ fn take_new<'t>(
     requires { k ≡ vec_len known.old }
     ensures spelled { IfOk result (λ r. IfSome r (λ rest. TakesSlot scope.entry.prefix.now (Hole k) known.old.items known.new.items text.now rest.now)) }
     ensures text { IfOk result (λ r. IfSome r (λ rest. IsUtf8 rest.now)) }
+    ensures exact { IfOk result (λ r. ReadsSlot scope.entry.prefix.now scope.entry.kinds.now known.old.items known.new.items (new_at scope.entry.prefix.now scope.entry.kinds.now k (map piece parts.now) known.old.items text.now) r) }
 {
-    let kind = kind_of(scope, k);
-    let n = hole_len(scope, k, kind, parts, known.as_slice(), text);
+    let kind = kind_of(scope.kinds, k);
+    let n = hole_len(scope.prefix, kind, k, parts, known.as_slice(), text);
     if !text.is_char_boundary(n) {
         return Ok(None);
     }
@@ -200,6 +77,7 @@ fn take_slot<'t>(
 ) -> Result<Option<&'t str>, AllocError>
     ensures spelled { IfOk result (λ r. IfSome r (λ rest. TakesSlot scope.entry.prefix.now slot known.old.items known.new.items text.now rest.now)) }
     ensures text { IfOk result (λ r. IfSome r (λ rest. IsUtf8 rest.now)) }
+    ensures exact { IfOk result (λ r. ReadsSlot scope.entry.prefix.now scope.entry.kinds.now known.old.items known.new.items (slot_at scope.entry.prefix.now scope.entry.kinds.now slot (map piece parts.now) known.old.items text.now) r) }
 {
     match slot {
         Slot::Nothing => Ok(Some(text)),
@@ -224,7 +102,8 @@ pub(crate) fn read_line<'t>(
     known: &mut Vec<Piece<'t>>,
     line: &'t str,
 ) -> Result<bool, AllocError>
-    ensures { IfOk result (λ b. OnTrue b (TakesParts scope.entry.prefix.now (map piece parts.now) known.old.items known.new.items line.now [])) }
+    ensures spelled { IfOk result (λ b. OnTrue b (TakesParts scope.entry.prefix.now (map piece parts.now) known.old.items known.new.items line.now [])) }
+    ensures exact { IfOk result (ReadsLine scope.entry.prefix.now scope.entry.kinds.now known.old.items known.new.items (line_at scope.entry.prefix.now scope.entry.kinds.now (map piece parts.now) known.old.items line.now)) }
 {
     let mut rest = line;
     for (i, part) in parts.iter().enumerate() {
