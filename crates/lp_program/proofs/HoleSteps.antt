@@ -1,7 +1,8 @@
 -- The steps of the loops that look for a hole's end.
 use Rattle.std.proofs.Common.{◌≡◌, ℕ, ◌+◌, ◌-◌, ◌==◌, ◌<◌, ◌≤◌, suc, Bool, true, false, cond, ◌&&◌, inl, inr, List, [], ◌∷◌, length, get_or, drop, map, Bor, refl, sym, ◌∙◌, ap, arith, eqb, ltb}
-use Rattle.std.specs.List.{prefix_len, starts_with}
-use Rattle.std.proofs.lemmas.Bool.{cases_Bool, cond-true, cond-false, cond_both, ltb-true, ltb-false, lt-ltb, le-ltb}
+use Rattle.std.specs.List.{list_all, prefix_len}
+use Rattle.std.proofs.Math.Dec.{eqb-suc-suc}
+use Rattle.std.proofs.lemmas.Bool.{cases_Bool, cond-true, cond-false, cond_both, ltb-true, ltb-false, lt-ltb, le-ltb, ne_eqb}
 use Rattle.std.proofs.lemmas.List.{at_drop_more, at_drop_all, drop_more}
 use Rattle.std.proofs.lemmas.List.Sums.{prefix_len-drop_yes, prefix_len-drop_no, prefix_len-drop_all}
 use Rattle.lp_form.specs.declared.template.Slot.{Slot}
@@ -21,6 +22,14 @@ pub run_over : (test : ℕ → Bool) (text : List ℕ) (i : ℕ) → length text
 run_over test text i le = prefix_len-drop_all test text i le
 
 pub ruleset run_steps = (run_more, run_stop, run_over)
+
+-- all bytes pass a test where as many pass in front as there are
+pub all_run : (test : ℕ → Bool) (text : List ℕ) → eqb (prefix_len test text) (length text) ≡ list_all test text
+all_run test [] = refl
+all_run test (b ∷ text) = elim (cases_Bool (test b)) [
+  | inl e ↦ rw e (eqb-suc-suc (prefix_len test text) (length text) ∙ all_run test text)
+  | inr e ↦ rw e (ne_eqb 0 (suc (length text)) (λ h. absurd (omega arith)))
+]
 
 -- the first place that passes
 pub first_more : (test : List ℕ → Bool) (text : List ℕ) (i : ℕ) → i < length text → test (drop i text) ≡ false → first_at test (drop i text) ≡ first_at test (drop (i + 1) text) + 1

@@ -235,7 +235,9 @@ impl<'t> Cursor<'t> {
         if end >= self.text.len() {
             self.at(self.text.len())
         } else {
-            placed(self.text, end + 1, self.before + 1)
+            let next = end + 1;
+            let ended = self.before + 1;
+            placed(self.text, next, ended)
         }
     }
 

@@ -61,12 +61,12 @@ fn part_before<'t>(separator: &[u8], text: &'t [u8]) -> &'t [u8]
 }
 
 /// What stands behind the first separator.
-#[tactic(auto, using(crate::proofs::Fitting::place_ends), unfolding(crate::specs::Fillings::holds))]
 fn part_behind<'t>(separator: &[u8], text: &'t [u8]) -> &'t [u8]
     requires { IsTrue (fillings.holds separator.now text.now) }
     ensures { result.now ≡ fillings.part_behind separator.now text.now }
 {
-    rest_from(text, place_in(text, separator) + separator.len())
+    let end = place_in(text, separator) + separator.len();
+    rest_from(text, end)
 }
 
 /// Whether all bytes are digits.
@@ -228,6 +228,7 @@ fn is_escape(byte: u8) -> bool
 }
 
 /// Letters of ASCII, digits and `_`.
+#[tactic(auto, using(crate::proofs::Fitting::escape_steps))]
 fn is_escaped(text: &[u8]) -> bool
     ensures { result ≡ fillings.is_escaped text.now }
 {

@@ -1,6 +1,7 @@
 //! Reading a program from its text.
 
 mod cursor;
+mod ends;
 mod fill;
 mod line;
 mod reader;

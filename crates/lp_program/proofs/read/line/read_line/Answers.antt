@@ -36,7 +36,7 @@ loop-i-preserved c =
     let text = rw c.in-Some-2.is at c.in_ok-take_slot.ensures.text in
     let more = takes_more prefix (map piece (take i parts)) (piece q) c.args.known.now.items c.loop-i.known.items c.take_slot.new.known.items c.args.line.now c.loop-i.rest.now c.in-Some.after.now c.in-Some-2.text.now c.loop-i.invariant.spelled front slot in
     let kinds = c.args.scope.kinds.now in
-    let off = copied_some c.after_front-after.result c.in-Some.after _ c.in-Some.is c.after_front-after.ensures.exact in
+    let off = copied_some c.after_front.result c.in-Some.after _ c.in-Some.is c.after_front.ensures.exact in
     let exact : ReadsSlot prefix kinds c.loop-i.known.items c.take_slot.new.known.items (slot_at prefix kinds q.1 (map piece (take (length parts - (i + 1)) (drop (i + 1) parts))) c.loop-i.known.items c.in-Some.after.now) c.in_ok-take_slot.field-0 = c.in_ok-take_slot.ensures.exact in
     let there = rw c.in-Some-2.is at (rw (take_rest parts (i + 1)) at exact) in
     record {
@@ -48,7 +48,7 @@ loop-i-preserved c =
 -- the literal text isn't there
 pub returns-in_default-clause-exact : goal.returns-in_default-clause-exact
 returns-in_default-clause-exact c =
-    let off = copied_none c.after_front-after.result _ c.in_default.is c.after_front-after.ensures.exact in
+    let off = copied_none c.after_front.result _ c.in_default.is c.after_front.ensures.exact in
     reading_stops c.args.scope.prefix.now c.args.scope.kinds.now (map piece c.args.parts.now) c.args.parts.now c.args.known.now.items c.loop-i.known.items c.loop-i.known.items c.args.line.now c.loop-i.rest.now c.loop-i.i (omega arith) c.loop-i.invariant.reads off
 
 -- the slot can't be read
@@ -58,7 +58,7 @@ returns-in-None-clause-exact c =
     let kinds = c.args.scope.kinds.now in
     let parts = c.args.parts.now in
     let i = c.loop-i.i in
-    let off = copied_some c.after_front-after.result c.in-Some.after _ c.in-Some.is c.after_front-after.ensures.exact in
+    let off = copied_some c.after_front.result c.in-Some.after _ c.in-Some.is c.after_front.ensures.exact in
     let exact : ReadsSlot prefix kinds c.loop-i.known.items c.take_slot.new.known.items (slot_at prefix kinds (get_or parts i none).1 (map piece (take (length parts - (i + 1)) (drop (i + 1) parts))) c.loop-i.known.items c.in-Some.after.now) c.in_ok-take_slot.field-0 = c.in_ok-take_slot.ensures.exact in
     let there = rw c.in-None.is at (rw (take_rest parts (i + 1)) at exact) in
     reading_refused prefix kinds (map piece parts) parts c.args.known.now.items c.loop-i.known.items c.take_slot.new.known.items c.take_slot.new.known.items c.args.line.now c.loop-i.rest.now c.in-Some.after.now i (omega arith) c.loop-i.invariant.reads off there

@@ -18,7 +18,7 @@ returns-then-not-is_char_boundary-clause-exact c =
     let len = c.hole_len-n.ensures.value ∙ ap (λ k. hole_len prefix k c.args.k parts c.as_slice.result.now text) c.kind_of-kind.ensures
         ∙ ap (λ ks. hole_len prefix _ c.args.k parts ks text) c.as_slice.ensures.value in
     new_refused prefix c.args.scope.kinds.now c.args.k n parts known _ text c.requires len
-    (cut_wrong prefix _ text n c.utf8.text c.hole_len-n.ensures.bound (λ b. both_ways c.is_char_boundary.result c.if-not-is_char_boundary.true (c.is_char_boundary.ensures.1 b)))
+    (cut_wrong prefix _ text n c.utf8.text c.hole_len-n.ensures.bound (λ b. both_ways c.is_char_boundary.result c.if-not-is_char_boundary.true (c.is_char_boundary.ensures.test.1 b)))
 
 pub returns-then-not-branch-clause-exact : goal.returns-then-not-branch-clause-exact
 returns-then-not-branch-clause-exact c =

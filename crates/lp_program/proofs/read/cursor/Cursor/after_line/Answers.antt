@@ -6,8 +6,8 @@ use Rattle.lp_program.specs.Counting.{feeds}
 use Rattle.lp_program.proofs.Counting.{feeds_le, behind_at, feeds_behind, next_boundary}
 use Rattle.lp_program.proofs.read.cursor.Cursor.after_line.Goals as goal
 
-pub overflow_add-placed : goal.overflow_add-placed
-overflow_add-placed c = let s = c.args.self.now in let a = feeds_le s.text.now s.start in omega (arith, a, s.start_ended, c.line_end.ensures.place)
+pub overflow_add-ended : goal.overflow_add-ended
+overflow_add-ended c = let s = c.args.self.now in let a = feeds_le s.text.now s.start in omega (arith, a, s.start_ended, c.line_end.ensures.place)
 
 pub at-requires-place : goal.at-requires-place
 at-requires-place c = IsCharBoundary-end c.args.self.now.text.now
