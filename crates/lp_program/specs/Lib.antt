@@ -9,3 +9,5 @@ pub mod Cursors
 pub mod HoleEnds
 pub mod Fillings
 pub mod LineReading
+pub mod TableReading
+pub mod CodeReading

@@ -216,6 +216,11 @@ impl<'t> Cursor<'t> {
         lines_ended(self.text.as_bytes(), 0, 0, place).saturating_add(1)
     }
 
+    /// The number of the line at a place; one past that of the last line where the text ends there.
+    pub(crate) fn line_from(&self, place: usize) -> usize {
+        if place < self.text.len() { self.line_at(place) } else { self.past_last() }
+    }
+
     /// One past the number of the last line.
     pub(crate) fn past_last(&self) -> usize {
         let ended = self.line_at(self.text.len());
@@ -241,14 +246,18 @@ impl<'t> Cursor<'t> {
         }
     }
 
-    /// A place in the text that isn't before this one.
+    /// Another place in the text.
     pub(crate) fn at(&self, place: usize) -> Cursor<'t>
-        requires place { IsCharBoundary self.now.text.now place }
-        requires later { self.now.raw ≤ place }
+        requires { IsCharBoundary self.now.text.now place }
         ensures text { result.text.now ≡ self.now.text.now }
         ensures rest { left result ≡ drop place self.now.text.now }
     {
-        let ended = lines_ended(self.text.as_bytes(), self.raw, self.ended, place);
+        let bytes = self.text.as_bytes();
+        let ended = if self.raw <= place {
+            lines_ended(bytes, self.raw, self.ended, place)
+        } else {
+            lines_ended(bytes, 0, 0, place)
+        };
         placed(self.text, place, ended)
     }
 }

@@ -15,7 +15,7 @@ use lp_texts::{is_identifier, is_one_line};
 use std::alloc::{AllocError, Global};
 
 /// Whether two texts are the same.
-fn is_same(text: &[u8], other: &[u8]) -> bool
+pub(crate) fn is_same(text: &[u8], other: &[u8]) -> bool
     ensures { result ≡ bytes_eq text.now other.now }
 {
     text == other
@@ -30,7 +30,7 @@ fn holds(sought: &[u8], text: &[u8]) -> bool
 }
 
 /// The front of a text, up to a place.
-fn front_to(text: &[u8], at: usize) -> &[u8]
+pub(crate) fn front_to(text: &[u8], at: usize) -> &[u8]
     requires { at ≤ length text.now }
     ensures { result.now ≡ take at text.now }
 {

@@ -6,5 +6,6 @@ mod fill;
 mod line;
 mod reader;
 mod rows;
+mod taking;
 
 pub use reader::{ReadFault, read_program};

@@ -4,9 +4,8 @@ ghost use Rattle.std.specs.Prelude.{◌≡◌, ◌<◌, ◌≤◌, length};
 
 use crate::read::cursor::Cursor;
 use crate::read::line::{Scope, read_line};
-use crate::read::rows::{Table, read_entries};
+use crate::read::taking::{TakenTable, cut_line, take_code, take_entries, take_use};
 use lp_form::{Class, Line, Part, Step, holes, members, steps};
-use lp_tok::code_end;
 use lp_tree::piece::Piece;
 use lp_tree::tree::{Entry, Program};
 use std::alloc::{AllocError, Global};
@@ -74,8 +73,8 @@ fn prefix_of(text: &str) -> &str {
             return "";
         };
         if line.starts_with("use ") {
-            match use_end(cursor) {
-                Some((_, next)) => cursor = cursor.at(next),
+            match take_use(cursor) {
+                Some(taken) => cursor = taken.next,
                 None => return "",
             }
         } else {
@@ -86,26 +85,6 @@ fn prefix_of(text: &str) -> &str {
         }
     }
     ""
-}
-
-/// The text of the use in the next line, and the place after its `;`.
-fn use_end<'t>(cursor: Cursor<'t>) -> Option<(&'t str, usize)> {
-    let text = cursor.text();
-    let from = cursor.start().saturating_add(4);
-    if from > text.len() || !text.is_char_boundary(from) {
-        return None;
-    }
-    let end = code_end(text, from).ok()?;
-    let after = text.get(end..)?;
-    if !after.starts_with(";") {
-        return None;
-    }
-    let next = end.saturating_add(1);
-    let rest = text.get(next..)?;
-    if !rest.is_empty() && !rest.starts_with("\n") {
-        return None;
-    }
-    Some((text.get(from..end)?, next))
 }
 
 impl<'t> Reader<'t> {
@@ -253,84 +232,54 @@ impl<'t> Reader<'t> {
 
     /// Takes a use.
     fn take_use(&mut self, known: &mut Vec<Piece<'t>>) -> Result<bool, AllocError> {
-        match use_end(self.cursor) {
-            Some((text, next)) => {
-                known.push(Piece::new(CowStr::Borrowed(text)))?;
-                self.cursor = self.cursor.at(next);
+        match take_use(self.cursor) {
+            Some(taken) => {
+                known.push(Piece::new(CowStr::Borrowed(taken.text)))?;
+                self.cursor = taken.next;
                 Ok(true)
             }
             None => {
                 let from = self.cursor.start().saturating_add(4);
-                self.miss_cut(from);
+                let line = cut_line(self.cursor, from);
+                self.miss(line);
                 Ok(false)
             }
         }
     }
 
-    /// Notes the line at which a cut from a place stopped or failed.
-    fn miss_cut(&mut self, from: usize) {
-        let text = self.cursor.text();
-        let line = if from <= text.len() && text.is_char_boundary(from) {
-            match code_end(text, from) {
-                Ok(end) => {
-                    if end < text.len() {
-                        self.cursor.line_at(end)
-                    } else {
-                        self.cursor.past_last()
-                    }
-                }
-                Err(_) => self.cursor.past_last(),
-            }
-        } else {
-            self.cursor.past_last()
-        };
-        self.miss(line);
-    }
-
-    /// Takes user code: up to the `}` at which its cut stops, without the line feed before it.
+    /// Takes user code.
     fn take_code(&mut self, known: &mut Vec<Piece<'t>>) -> Result<bool, AllocError> {
-        let text = self.cursor.text();
-        let from = self.cursor.raw();
-        if from <= text.len() && text.is_char_boundary(from) {
-            if let Ok(end) = code_end(text, from) {
-                if let (Some(code), Some(after)) = (text.get(from..end), text.get(end..)) {
-                    if after.starts_with("}") {
-                        let code = code.strip_suffix("\n").unwrap_or(code);
-                        known.push(Piece::new(CowStr::Borrowed(code)))?;
-                        self.cursor = self.cursor.at(end);
-                        return Ok(true);
-                    }
-                }
+        match take_code(self.cursor) {
+            Some(taken) => {
+                known.push(Piece::new(CowStr::Borrowed(taken.text)))?;
+                self.cursor = taken.next;
+                Ok(true)
+            }
+            None => {
+                let line = cut_line(self.cursor, self.cursor.raw());
+                self.miss(line);
+                Ok(false)
             }
         }
-        self.miss_cut(from);
-        Ok(false)
     }
 
     /// Takes the entries of a table.
     fn take_entries(&mut self, at: usize) -> Result<bool, AllocError> {
-        let text = self.cursor.text();
-        let from = self.cursor.raw();
-        let Table {
-            numbers,
-            end,
-            ended,
-        } = read_entries(self.alloc, text, from)?;
-        if !ended {
-            let line = if end < text.len() {
-                self.cursor.line_at(end)
-            } else {
-                self.cursor.past_last()
-            };
-            self.miss(line);
-            return Ok(false);
+        match take_entries(self.alloc, self.cursor)? {
+            TakenTable::Whole(numbers, next) => {
+                if at < self.entries.len() {
+                    let entry = &mut self.entries[at];
+                    entry.numbers = numbers;
+                }
+                self.cursor = next;
+                Ok(true)
+            }
+            TakenTable::Broken(place) => {
+                let line = self.cursor.line_from(place);
+                self.miss(line);
+                Ok(false)
+            }
         }
-        if at < self.entries.len() {
-            let entry = &mut self.entries[at];
-            entry.numbers = numbers;
-        }
-        self.cursor = self.cursor.at(end);
-        Ok(true)
     }
 
     /// Whether the lines in front begin the part.

@@ -1,66 +1,142 @@
 //! Reading the entries of a table.
 
+ghost use Rattle.std.specs.Prelude.{◌≡◌, ◌<◌, ◌≤◌, ◌+◌, ◌∷◌, length, take, drop, IfOk};
+ghost use Rattle.std.specs.Str.{IsCharBoundary};
+ghost use Rattle.lp_program.specs.TableReading as tables;
+
 use crate::read::cursor::line_end;
-use crate::read::fill::{digit_run, is_number};
+use crate::read::ends::{digit_run, rest_from, stands_at};
+use crate::read::fill::{is_number, is_same};
 use std::alloc::{AllocError, Global};
 
-/// What a step over a table found.
+/// What stands at a place of a table.
 pub(crate) enum RowStep {
     /// An entry, and the place after its `,`.
     Entry(i32, usize),
-    /// Something that doesn't count, up to a place, and whether a line ended there.
-    Skip(usize, bool),
-    /// The end of the table at a place.
-    End(usize),
+    /// A line feed, and the place after it.
+    Line(usize),
+    /// Something else that doesn't count, up to a place.
+    Skip(usize),
+    /// The end of the table.
+    End,
     /// Nothing that stands in a table.
     Wrong,
 }
 
-/// What stands at a place of a table. A line feed is passed by itself, a comment up to its line
-/// feed.
-fn row_step(text: &str, at: usize) -> RowStep {
-    let Some(rest) = text.get(at..) else {
-        return RowStep::Wrong;
-    };
-    if rest.starts_with("\n") {
-        return RowStep::Skip(at.saturating_add(1), true);
-    }
-    if rest.starts_with("//") {
-        return RowStep::Skip(line_end(text.as_bytes(), at), false);
-    }
-    if rest.starts_with("]") {
-        return RowStep::End(at);
-    }
-    if let Some(blank) = rest.chars().next() {
-        if blank.is_whitespace() {
-            return RowStep::Skip(at.saturating_add(blank.len_utf8()), false);
-        }
-    }
-    entry_at(rest, at)
+/// How many bytes the sign in front has.
+fn sign_len(text: &[u8]) -> usize
+    ensures value { result ≡ tables.sign_len text.now }
+    ensures bound { result ≤ length text.now }
+{
+    if text.starts_with(b"-") { 1 } else { 0 }
 }
 
-/// The entry at the front of a text that stands at a place.
-fn entry_at(rest: &str, at: usize) -> RowStep {
-    let sign = if rest.starts_with("-") { 1 } else { 0 };
-    let Some(digits) = rest.get(sign..) else {
+/// Where the sign and the digits in front end.
+fn number_end(text: &[u8]) -> usize
+    ensures value { result ≡ tables.number_end text.now }
+    ensures bound { result ≤ length text.now }
+{
+    let sign = sign_len(text);
+    let end = sign + digit_run(rest_from(text, sign));
+    end
+}
+
+/// The number behind `-`, which stands in front of the digits in `text`.
+fn negative_of(text: &str, digits: &[u8]) -> Option<i32>
+    requires { text.now ≡ 45 ∷ digits.now }
+    ensures { result ≡ tables.negative_of digits.now }
+{
+    if !is_number(digits) || is_same(digits, b"0") {
+        return None;
+    }
+    match text.parse::<i32>() {
+        Ok(number) => Some(number),
+        Err(_) => None,
+    }
+}
+
+/// A number without a sign.
+fn positive_of(text: &str) -> Option<i32>
+    ensures { result ≡ tables.positive_of text.now }
+{
+    if !is_number(text.as_bytes()) {
+        return None;
+    }
+    match text.parse::<i32>() {
+        Ok(number) => Some(number),
+        Err(_) => None,
+    }
+}
+
+/// The number of 32 bits that a text spells.
+#[tactic(auto, unfolding(crate::specs::TableReading::number_of))]
+fn number_of(text: &str) -> Option<i32>
+    ensures { result ≡ tables.number_of text.now }
+{
+    let bytes = text.as_bytes();
+    if bytes.starts_with(b"-") {
+        negative_of(text, rest_from(bytes, 1))
+    } else {
+        positive_of(text)
+    }
+}
+
+/// The entry at a place, behind blanks.
+fn entry_at(text: &str, at: usize) -> RowStep
+    requires { IsCharBoundary text.now at }
+    ensures { tables.IsEntryAt text.now at result }
+{
+    let (_, rest) = text.split_at(at);
+    let bytes = rest.as_bytes();
+    let end = number_end(bytes);
+    let (spelled, behind) = rest.split_at(end);
+    let Some(number) = number_of(spelled) else {
         return RowStep::Wrong;
     };
-    let run = digit_run(digits.as_bytes());
-    let end = run.saturating_add(sign);
-    let (Some(number), Some(spelled), Some(after)) = (
-        digits.get(..run),
-        rest.get(..end),
-        rest.get(end..),
-    ) else {
-        return RowStep::Wrong;
-    };
-    if !is_number(number) || !after.starts_with(",") || spelled == "-0" {
+    if !behind.as_bytes().starts_with(b",") {
         return RowStep::Wrong;
     }
-    match spelled.parse::<i32>() {
-        Ok(value) => RowStep::Entry(value, at.saturating_add(end).saturating_add(1)),
-        Err(_) => RowStep::Wrong,
+    let next = at + end + 1;
+    RowStep::Entry(number, next)
+}
+
+/// How many bytes a blank at a place has.
+fn blank_len(text: &str, at: usize) -> usize
+    requires { IsCharBoundary text.now at }
+    ensures value { result ≡ tables.blank_len (drop at text.now) }
+    ensures next { IsCharBoundary text.now (at + result) }
+{
+    let (_, rest) = text.split_at(at);
+    match rest.chars().next() {
+        None => 0,
+        Some(c) => { if c.is_whitespace() { c.len_utf8() } else { 0 } }
     }
+}
+
+/// What stands at a place of a table. A line feed is passed by itself, a comment up to its line
+/// feed.
+fn row_step(text: &str, at: usize) -> RowStep
+    requires { IsCharBoundary text.now at }
+    ensures { tables.IsFront text.now at result }
+{
+    let bytes = text.as_bytes();
+    if at >= bytes.len() {
+        return RowStep::Wrong;
+    }
+    if bytes[at] == b'\n' {
+        return RowStep::Line(at + 1);
+    }
+    if stands_at(bytes, at, b"//") {
+        return RowStep::Skip(line_end(bytes, at));
+    }
+    if bytes[at] == b']' {
+        return RowStep::End;
+    }
+    let blank = blank_len(text, at);
+    if 0 < blank {
+        return RowStep::Skip(at + blank);
+    }
+    entry_at(text, at)
 }
 
 /// What a table holds, and where its last line begins; or the place of what stands in no table.
@@ -73,29 +149,40 @@ pub(crate) struct Table {
 }
 
 /// Reads the entries of a table from a place on.
-pub(crate) fn read_entries(alloc: Global, text: &str, from: usize) -> Result<Table, AllocError> {
+pub(crate) fn read_entries(alloc: Global, text: &str, from: usize) -> Result<Table, AllocError>
+    requires { IsCharBoundary text.now from }
+    ensures exact { IfOk result (λ table. tables.ReadsTable (drop from text.now) table.numbers.items (drop table.end text.now) table.ended) }
+    ensures end { IfOk result (λ table. IsCharBoundary text.now table.end) }
+{
     let mut numbers = Vec::new(alloc);
     let mut at = from;
-    let mut front = true;
-    for _ in 0..text.len() {
+    let mut at_front = true;
+    for _i in 0..text.len() - from {
         match row_step(text, at) {
             RowStep::Entry(number, next) => {
                 numbers.push(number)?;
                 at = next;
-                front = false;
+                at_front = false;
             }
-            RowStep::Skip(next, line_ended) => {
+            RowStep::Line(next) => {
                 at = next;
-                front = front || line_ended;
+                at_front = true;
             }
-            RowStep::End(end) => {
+            RowStep::Skip(next) => at = next,
+            RowStep::End => {
                 return Ok(Table {
                     numbers,
-                    end,
-                    ended: front,
+                    end: at,
+                    ended: at_front,
                 });
             }
-            RowStep::Wrong => break,
+            RowStep::Wrong => {
+                return Ok(Table {
+                    numbers,
+                    end: at,
+                    ended: false,
+                });
+            }
         }
     }
     Ok(Table {

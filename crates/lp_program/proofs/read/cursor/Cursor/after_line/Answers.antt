@@ -9,8 +9,8 @@ use Rattle.lp_program.proofs.read.cursor.Cursor.after_line.Goals as goal
 pub overflow_add-ended : goal.overflow_add-ended
 overflow_add-ended c = let s = c.args.self.now in let a = feeds_le s.text.now s.start in omega (arith, a, s.start_ended, c.line_end.ensures.place)
 
-pub at-requires-place : goal.at-requires-place
-at-requires-place c = IsCharBoundary-end c.args.self.now.text.now
+pub at-requires : goal.at-requires
+at-requires c = IsCharBoundary-end c.args.self.now.text.now
 
 pub placed-requires-raw : goal.placed-requires-raw
 placed-requires-raw c =
