@@ -194,17 +194,19 @@ settling_last text from at before s h le skipped =
     let k : ℕ = line_len (drop at text) in
     let all : length text ≡ at + k = omega (arith, line_in text at (omega arith)) in
     let d = length-drop at text in
-    let gone : behind_line (drop at text) ≡ [] = drop_all (k + 1) (drop at text) (omega (arith, d)) in
-    (drop_all (length text) text (omega arith) ∙ sym (settled_skips (drop at text) (left_some text at h) skipped ∙ ap settled gone ∙ settled_none) ∙ s.same,
-    s.ended ∙ sym (feeds_same text at k (omega arith)) ∙ ap (λ i. feeds (take i text)) (sym all))
+    let gone : behind_line (drop at text) ≡ [] = drop_all (k + 1) (drop at text) (omega (arith, d)) in (
+      drop_all (length text) text (omega arith) ∙ sym (settled_skips (drop at text) (left_some text at h) skipped ∙ ap settled gone ∙ settled_none) ∙ s.same,
+      s.ended ∙ sym (feeds_same text at k (omega arith)) ∙ ap (λ i. feeds (take i text)) (sym all),
+    )
 
 -- no line is left
 pub settling_over : (text : List ℕ) (from at before : ℕ) → Settling text from at before → length text ≤ at →
     (drop (length text) text ≡ settled (drop from text)) × (before ≡ feeds (take (length text) text))
 settling_over text from at before s le =
-    let all : at ≡ length text = omega (arith, s.at_in.0) in
-    (drop_all (length text) text (omega arith) ∙ sym settled_none ∙ ap settled (sym (drop_all at text le)) ∙ s.same,
-    s.ended ∙ ap (λ i. feeds (take i text)) all)
+    let all : at ≡ length text = omega (arith, s.at_in.0) in (
+      drop_all (length text) text (omega arith) ∙ sym settled_none ∙ ap settled (sym (drop_all at text le)) ∙ s.same,
+      s.ended ∙ ap (λ i. feeds (take i text)) all,
+    )
 
 -- behind the line that stands at a place
 pub behind_at : (text rest : List ℕ) (start : ℕ) → drop start text ≡ rest → behind_line rest ≡ drop (start + line_len (drop start text) + 1) text

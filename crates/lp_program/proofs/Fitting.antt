@@ -19,7 +19,7 @@ use Rattle.lp_texts.specs.Identifiers.{is_identifier}
 use Rattle.lp_texts.specs.OneLine.{IsOneLine}
 use Rattle.lp_program.specs.declared.read.fill.Element.{Element}
 use Rattle.lp_program.specs.HoleEnds.{first_at, place, is_digit}
-use Rattle.lp_program.specs.Fillings.{holds, part_before, part_behind, is_element, joined_within, is_escape, is_fitting, fits_behind, has_shape, line_part, Fits}
+use Rattle.lp_program.specs.Fillings.{is_number, holds, part_before, part_behind, is_element, joined_within, is_escape, is_fitting, fits_behind, has_shape, line_part, Fits}
 use Rattle.lp_program.proofs.Reading.{starts_ok}
 
 -- where a text stands in another, it ends within it
@@ -61,7 +61,7 @@ behind_fits sought text h =
     (or_cases (eqb (length sought) 0) (ltb (place sought text) (length text)) h)
 
 -- decimal digits
-all_digits : (text : List ℕ) → list_all is_digit text ≡ true → AllDigits 10 text
+pub all_digits : (text : List ℕ) → list_all is_digit text ≡ true → AllDigits 10 text
 all_digits [] h = tt
 all_digits (b ∷ t) h =
     let p = and_parts (is_digit b) (list_all is_digit t) h in
@@ -69,6 +69,14 @@ all_digits (b ∷ t) h =
     let v = digit_value_digit b (leb-true 48 b q.0, leb-true b 57 q.1) in
     let top = leb-true b 57 q.1 in
     (omega (arith, v, top), all_digits t p.1)
+
+-- what a number's text is
+pub number_parts : (text : List ℕ) → is_number text ≡ true → (0 < length text) × (list_all is_digit text ≡ true)
+unfolding is_number
+number_parts text h =
+    let p = and_parts (ltb 0 (length text)) _ h in
+    let q = and_parts (list_all is_digit text) _ p.1 in
+    (ltb-true 0 (length text) p.0, q.0)
 
 pub digits_utf8 : (text : List ℕ) → list_all is_digit text ≡ true → IsUtf8 text
 digits_utf8 text h = IsUtf8-from_ascii text (IsAscii-from_digits text (all_digits text h))
@@ -178,6 +186,7 @@ pub fits_line : {E : Type 0} (prefix : List ℕ) (kind : Kind) (text : List ℕ)
 unfolding Fits
 fits_line prefix kind text r line (Err e) h i s g = tt
 fits_line prefix kind text r line (Ok b) h i s g =
-    let some : line_part kind text ≡ Some line.now = sym i ∙ ap option_copied s in
-    (λ t. (h, subst (λ (o : Option (List ℕ)). IfSome o IsOneLine) (sym some) (g.0 t)),
-    λ f. g.1 (subst (λ (o : Option (List ℕ)). IfSome o IsOneLine) some f.1))
+    let some : line_part kind text ≡ Some line.now = sym i ∙ ap option_copied s in (
+      λ t. (h, subst (λ (o : Option (List ℕ)). IfSome o IsOneLine) (sym some) (g.0 t)),
+      λ f. g.1 (subst (λ (o : Option (List ℕ)). IfSome o IsOneLine) some f.1),
+    )

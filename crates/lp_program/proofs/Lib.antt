@@ -10,3 +10,4 @@ pub mod Rows
 pub mod Runs
 pub mod Spelled
 pub mod Stepping
+pub mod Tables

@@ -143,12 +143,13 @@ new_taken prefix kinds k n parts known new text front rest e len f r is fills =
     let m : ℕ = hole_len prefix (kind_of kinds k) k parts known text in
     let a : known ++ take m text ∷ [] ≡ new = ap (λ i. known ++ take i text ∷ []) (sym len) ∙ ap (λ (y : List ℕ). known ++ y ∷ []) (sym f) ∙ sym is in
     let b : drop m text ≡ rest.now = ap (λ i. drop i text) (sym len) ∙ sym r in
-    let pair : (known ++ take m text ∷ [], drop m text) ≡ (new, rest.now) = ap (λ (y : List (List ℕ)). (y, drop m text)) a ∙ ap (λ (y : List ℕ). (new, y)) b in
-    (ap (λ (y : List (List ℕ) × List ℕ). Some y) pair,
-    λ i l lt.
-    let there : i ≡ k = omega (arith, e, ap length is, length_push known front) in
-    let at : get_or new i [] ≡ front = ap (λ y. get_or y i []) is ∙ get_or_push known front [] i (sym (there ∙ e)) in
-    subst (λ j. Fills prefix (kind_of kinds j) (get_or new i [])) (sym there) (subst (λ (y : List ℕ). Fills prefix (kind_of kinds k) y) (sym at) fills))
+    let pair : (known ++ take m text ∷ [], drop m text) ≡ (new, rest.now) = ap (λ (y : List (List ℕ)). (y, drop m text)) a ∙ ap (λ (y : List ℕ). (new, y)) b in (
+      ap (λ (y : List (List ℕ) × List ℕ). Some y) pair,
+      λ i l lt.
+          let there : i ≡ k = omega (arith, e, ap length is, length_push known front) in
+          let at : get_or new i [] ≡ front = ap (λ y. get_or y i []) is ∙ get_or_push known front [] i (sym (there ∙ e)) in
+          subst (λ j. Fills prefix (kind_of kinds j) (get_or new i [])) (sym there) (subst (λ (y : List ℕ). Fills prefix (kind_of kinds k) y) (sym at) fills),
+    )
 
 -- what is cut inside a character is no text
 pub cut_wrong : (prefix : List ℕ) (kind : Kind) (text : List ℕ) (n : ℕ) → IsUtf8 text → n ≤ length text → (IsCharBoundary text n → ⊥) → Fills prefix kind (take n text) → ⊥

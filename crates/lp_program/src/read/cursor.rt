@@ -6,7 +6,7 @@ ghost use Rattle.lp_program.specs.Counting.{line_len, front_line, behind_line, f
 ghost use Rattle.lp_program.specs.Cursors.{left};
 
 /// Whether a byte is a line feed.
-fn ends_line(byte: u8) -> bool
+pub(crate) fn ends_line(byte: u8) -> bool
     ensures { result ≡ (byte == 10) }
 {
     byte == b'\n'
@@ -218,7 +218,11 @@ impl<'t> Cursor<'t> {
 
     /// The number of the line at a place; one past that of the last line where the text ends there.
     pub(crate) fn line_from(&self, place: usize) -> usize {
-        if place < self.text.len() { self.line_at(place) } else { self.past_last() }
+        if place < self.text.len() {
+            self.line_at(place)
+        } else {
+            self.past_last()
+        }
     }
 
     /// One past the number of the last line.

@@ -92,7 +92,11 @@ fn depth_after(depth: usize, byte: u8) -> usize
     if byte == b'(' {
         return depth + 1;
     }
-    if byte == b')' { depth.saturating_sub(1) } else { depth }
+    if byte == b')' {
+        depth.saturating_sub(1)
+    } else {
+        depth
+    }
 }
 
 /// Whether a byte closes the last open bracket.
@@ -125,7 +129,11 @@ fn path_len(text: &[u8]) -> usize
 {
     let at = close_at(text);
     if at < text.len() {
-        if text.len() - at < 2 { text.len() } else { at + 2 }
+        if text.len() - at < 2 {
+            text.len()
+        } else {
+            at + 2
+        }
     } else {
         0
     }
@@ -140,7 +148,11 @@ pub(crate) fn visibility_len(text: &[u8]) -> usize
     if text.starts_with(b"pub ") {
         return 4;
     }
-    if text.starts_with(b"pub(") { path_len(text) } else { 0 }
+    if text.starts_with(b"pub(") {
+        path_len(text)
+    } else {
+        0
+    }
 }
 
 /// Whether symbols end in front: at a comma with no symbol behind it.

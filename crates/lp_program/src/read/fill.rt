@@ -202,8 +202,7 @@ fn is_attribute(text: &[u8]) -> bool
 fn is_literal(text: &[u8]) -> bool
     ensures { result ≡ fillings.is_literal text.now }
 {
-    text.len() > 1
-        && (text.starts_with(b"\"") && (text.ends_with(b"\"") && !holds(b"\n", text)))
+    text.len() > 1 && (text.starts_with(b"\"") && (text.ends_with(b"\"") && !holds(b"\n", text)))
 }
 
 /// A number above 1.
@@ -275,7 +274,8 @@ fn is_look(prefix: &[u8], text: &[u8]) -> bool
     ensures { result ≡ fillings.is_look prefix.now text.now }
 {
     text.starts_with(prefix)
-        && (is_same(off_front(prefix, text), b"lookbehind") || is_same(off_front(prefix, text), b"lookahead"))
+        && (is_same(off_front(prefix, text), b"lookbehind")
+            || is_same(off_front(prefix, text), b"lookahead"))
 }
 
 /// A number, `.`, and `0` or `2`.

@@ -28,7 +28,11 @@ pub(crate) struct Scope<'s> {
 fn kind_of(kinds: &[Kind], k: usize) -> Kind
     ensures { result ≡ kind_of kinds.now k }
 {
-    if k < kinds.len() { kinds[k] } else { Kind::Text }
+    if k < kinds.len() {
+        kinds[k]
+    } else {
+        Kind::Text
+    }
 }
 
 /// The text after its front, if it begins so.

@@ -1,10 +1,10 @@
 //! Reading the entries of a table.
 
-ghost use Rattle.std.specs.Prelude.{◌≡◌, ◌<◌, ◌≤◌, ◌+◌, ◌∷◌, length, take, drop, IfOk};
+ghost use Rattle.std.specs.Prelude.{◌≡◌, ◌<◌, ◌≤◌, ◌+◌, ◌==◌, ◌∷◌, length, drop, IfOk};
 ghost use Rattle.std.specs.Str.{IsCharBoundary};
 ghost use Rattle.lp_program.specs.TableReading as tables;
 
-use crate::read::cursor::line_end;
+use crate::read::cursor::{ends_line, line_end};
 use crate::read::ends::{digit_run, rest_from, stands_at};
 use crate::read::fill::{is_number, is_same};
 use std::alloc::{AllocError, Global};
@@ -113,6 +113,13 @@ fn blank_len(text: &str, at: usize) -> usize
     }
 }
 
+/// Whether a byte is the `]` that ends a table.
+fn ends_table(byte: u8) -> bool
+    ensures { result ≡ (byte == 93) }
+{
+    byte == b']'
+}
+
 /// What stands at a place of a table. A line feed is passed by itself, a comment up to its line
 /// feed.
 fn row_step(text: &str, at: usize) -> RowStep
@@ -123,13 +130,13 @@ fn row_step(text: &str, at: usize) -> RowStep
     if at >= bytes.len() {
         return RowStep::Wrong;
     }
-    if bytes[at] == b'\n' {
+    if ends_line(bytes[at]) {
         return RowStep::Line(at + 1);
     }
     if stands_at(bytes, at, b"//") {
         return RowStep::Skip(line_end(bytes, at));
     }
-    if bytes[at] == b']' {
+    if ends_table(bytes[at]) {
         return RowStep::End;
     }
     let blank = blank_len(text, at);

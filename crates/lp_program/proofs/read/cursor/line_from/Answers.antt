@@ -14,6 +14,7 @@ returns-then-start-text c = drop_all c.args.start c.args.text.now (omega arith)
 pub returns : goal.returns
 returns c =
     let text = c.args.text.now in
-    let end = c.line_end.result in
-    (c.split_at-2.ensures.front ∙ ap (λ x. take (end - c.args.start) x) c.split_at.ensures.back ∙ whole_line text c.args.start end c.line_end.ensures.place,
-    omega (arith, length-drop c.args.start text))
+    let end = c.line_end.result in (
+      c.split_at-2.ensures.front ∙ ap (λ x. take (end - c.args.start) x) c.split_at.ensures.back ∙ whole_line text c.args.start end c.line_end.ensures.place,
+      omega (arith, length-drop c.args.start text),
+    )

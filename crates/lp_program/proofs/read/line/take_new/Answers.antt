@@ -16,7 +16,7 @@ returns-then-not-is_char_boundary-clause-exact c =
     let parts = map piece c.args.parts.now in
     let known = c.args.known.now.items in
     let len = c.hole_len-n.ensures.value ∙ ap (λ k. hole_len prefix k c.args.k parts c.as_slice.result.now text) c.kind_of-kind.ensures
-        ∙ ap (λ ks. hole_len prefix _ c.args.k parts ks text) c.as_slice.ensures.value in
+    ∙ ap (λ ks. hole_len prefix _ c.args.k parts ks text) c.as_slice.ensures.value in
     new_refused prefix c.args.scope.kinds.now c.args.k n parts known _ text c.requires len
     (cut_wrong prefix _ text n c.utf8.text c.hole_len-n.ensures.bound (λ b. both_ways c.is_char_boundary.result c.if-not-is_char_boundary.true (c.is_char_boundary.ensures.test.1 b)))
 
@@ -28,7 +28,7 @@ returns-then-not-branch-clause-exact c =
     let parts = map piece c.args.parts.now in
     let known = c.args.known.now.items in
     let len = c.hole_len-n.ensures.value ∙ ap (λ k. hole_len prefix k c.args.k parts c.as_slice.result.now text) c.kind_of-kind.ensures
-        ∙ ap (λ ks. hole_len prefix _ c.args.k parts ks text) c.as_slice.ensures.value in
+    ∙ ap (λ ks. hole_len prefix _ c.args.k parts ks text) c.as_slice.ensures.value in
     let front : c.split_at.result.0.now ≡ take n text = c.split_at.ensures.front in
     new_refused prefix c.args.scope.kinds.now c.args.k n parts known _ text c.requires len
     (λ f. both_ways c.in_ok-may_fill.field-0 c.if-not-branch.true
@@ -42,7 +42,7 @@ returns-clause-exact c =
     let parts = map piece c.args.parts.now in
     let known = c.args.known.now.items in
     let len = c.hole_len-n.ensures.value ∙ ap (λ k. hole_len prefix k c.args.k parts c.as_slice.result.now text) c.kind_of-kind.ensures
-        ∙ ap (λ ks. hole_len prefix _ c.args.k parts ks text) c.as_slice.ensures.value in
+    ∙ ap (λ ks. hole_len prefix _ c.args.k parts ks text) c.as_slice.ensures.value in
     let fits = subst (λ k. Fits prefix k c.split_at.result.0.now) c.kind_of-kind.ensures (c.in_ok-may_fill.ensures.0 c.if-not-branch.false) in
     new_taken prefix c.args.scope.kinds.now c.args.k n parts known _ text c.split_at.result.0.now c.split_at.result.1 c.requires len
     c.split_at.ensures.front c.split_at.ensures.back (search rules) (c.split_at.utf8.0, fits)
