@@ -12,11 +12,13 @@ use Rattle.std.proofs.lemmas.List.{at_drop_more, at_drop_all, drop_more, drop-dr
 use Rattle.std.proofs.lemmas.List.Sums.{prefix_len_passes, prefix_len-le-length}
 use Rattle.std.proofs.lemmas.Str.{IsCharBoundary-start, IsCharBoundary-after_ascii, IsCharBoundary-from_rest}
 use Rattle.std.proofs.lemmas.Str.Parse.{IsNumeralModel, numerals_by_value, tells_digits, parse_signed_minus, parse_signed_plain}
+use Rattle.lp_program.specs.declared.read.rows.RowStep.{RowStep}
+use Rattle.lp_program.specs.declared.read.rows.RowStep.TheVariants as step
 use Rattle.lp_program.specs.Counting.{line_len}
 use Rattle.lp_program.specs.HoleEnds.{is_digit}
 use Rattle.lp_program.specs.Fillings.{is_number}
 use Rattle.lp_program.specs.LineReading.{◌>>=◌, after}
-use Rattle.lp_program.specs.TableReading.{negative_of, positive_of, number_of, sign_len, number_end, entry_in, blank_len, Front, feed, skip, ends, entry, wrong, entry_front, front_after_blank, front_of, Table, with_number, goes_on_after, entries_within, entries, ReadsTable}
+use Rattle.lp_program.specs.TableReading.{negative_of, positive_of, number_of, sign_len, number_end, entry_in, blank_len, Front, feed, skip, ends, entry, wrong, entry_front, front_after_blank, front_of, Table, with_number, goes_on_after, entries_within, entries, ReadsTable, IsFront, IsEntryAt}
 use Rattle.lp_program.proofs.Fitting.{all_digits, number_parts}
 use Rattle.lp_program.proofs.Reading.{starts_ok}
 
@@ -48,6 +50,11 @@ negative_read text digits r e h n z =
 
 pub negative_none : (digits : List ℕ) → is_number digits ≡ false → negative_of digits ≡ None
 negative_none digits n = ap (λ b. cond (b && (not (bytes_eq digits (codes "0")) && leb (digits_value 10 digits) (2 ^ 31))) (Some (neg_ℤ (pos (digits_value 10 digits)))) None) n
+
+pub negative_zero : (digits : List ℕ) → is_number digits ≡ true → bytes_eq digits (codes "0") ≡ true → negative_of digits ≡ None
+negative_zero digits n z =
+    ap (λ b. cond (b && (not (bytes_eq digits (codes "0")) && leb (digits_value 10 digits) (2 ^ 31))) (Some (neg_ℤ (pos (digits_value 10 digits)))) None) n
+    ∙ ap (λ b. cond (not b && leb (digits_value 10 digits) (2 ^ 31)) (Some (neg_ℤ (pos (digits_value 10 digits)))) None) z
 
 positive_by : {E : Type 0} (digits : List ℕ) (r : Result ℤ E) → AllDigits 10 digits → 0 < length digits →
     OkIff r (AllDigits 10 digits × (0 < length digits) × (digits_value 10 digits < 2 ^ 31)) (pos (digits_value 10 digits)) →
@@ -263,3 +270,12 @@ pub so_far_over : (text rest left : List ℕ) (m at : ℕ) (at_front : Bool) (nu
 unfolding entries_within
 so_far_over text rest left m at at_front numbers s e =
     sym s.same ∙ ap (λ k. entries_within k at_front (drop at text) >>= λ t. Some (numbers ++ t.0, t.1)) e
+
+-- an entry, or nothing of a table, as the code finds it behind blanks
+pub entry_step : (text : List ℕ) (at : ℕ) (found : RowStep) → at < length text → (get_or text at 0 == 10) ≡ false → starts_with eqb (drop at text) (codes "//") ≡ false →
+    (get_or text at 0 == 93) ≡ false → blank_len (drop at text) ≡ 0 → IsEntryAt text at found → IsFront text at found
+entry_step text at (step.Entry z next) lt n s e b h = (front_entry text at (Some (z, drop next text)) lt n s e b h.0, h.1)
+entry_step text at step.Wrong lt n s e b h = front_entry text at None lt n s e b h
+entry_step text at (step.Line next) lt n s e b h = absurd h
+entry_step text at (step.Skip next) lt n s e b h = absurd h
+entry_step text at step.End lt n s e b h = absurd h

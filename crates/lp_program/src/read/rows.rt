@@ -46,7 +46,10 @@ fn negative_of(text: &str, digits: &[u8]) -> Option<i32>
     requires { text.now ≡ 45 ∷ digits.now }
     ensures { result ≡ tables.negative_of digits.now }
 {
-    if !is_number(digits) || is_same(digits, b"0") {
+    if !is_number(digits) {
+        return None;
+    }
+    if is_same(digits, b"0") {
         return None;
     }
     match text.parse::<i32>() {

@@ -1,0 +1,15 @@
+use Rattle.std.proofs.Common.{◌+◌, arith, drop, ap, sym, ◌∙◌, length-drop}
+use Rattle.std.specs.List.{prefix_len}
+use Rattle.lp_program.specs.HoleEnds.{is_digit}
+use Rattle.lp_program.proofs.read.rows.number_end.Goals as goal
+
+pub returns : goal.returns
+returns c =
+    let text = c.args.text.now in
+    let sign = c.sign_len-sign.result in
+    let size = length-drop sign text in
+    let digits = c.digit_run.ensures.value ∙ ap (prefix_len is_digit) c.rest_from.ensures in
+    record {
+      value = ap (λ n. sign + n) digits ∙ ap (λ s. s + prefix_len is_digit (drop s text)) c.sign_len-sign.ensures.value;
+      bound = omega (arith, c.digit_run.ensures.bound, c.rest_from.ensures, size);
+    }
