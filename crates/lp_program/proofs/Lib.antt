@@ -1,3 +1,4 @@
+pub mod Exact
 pub mod Fitting
 pub mod Cursors
 pub mod Counting

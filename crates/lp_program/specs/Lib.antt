@@ -11,3 +11,4 @@ pub mod Fillings
 pub mod LineReading
 pub mod TableReading
 pub mod CodeReading
+pub mod LineHoles
