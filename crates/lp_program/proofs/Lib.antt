@@ -12,3 +12,4 @@ pub mod Runs
 pub mod Spelled
 pub mod Stepping
 pub mod Tables
+pub mod Taking

@@ -3,7 +3,6 @@
 ghost use Rattle.std.specs.Prelude.{◌≡◌, ◌<◌, ◌≤◌, ◌+◌, ◌++◌, ◌==◌, length, take, drop, IsSome};
 ghost use Rattle.std.specs.Str.{IsCharBoundary, trim_start};
 ghost use Rattle.lp_program.specs.Counting.{line_len, front_line, behind_line, feeds, is_skipped, settled, IsLineAt};
-ghost use Rattle.lp_program.specs.Cursors.{left};
 
 /// Whether a byte is a line feed.
 pub(crate) fn ends_line(byte: u8) -> bool
@@ -12,9 +11,9 @@ pub(crate) fn ends_line(byte: u8) -> bool
     byte == b'\n'
 }
 
-/// Where the line ends that goes on at a place: the place of its line feed, or the length.
+/// Where the line ends that goes on at a place of some bytes.
 #[tactic(auto, using(crate::proofs::Counting::line_steps))]
-pub(crate) fn line_end(text: &[u8], from: usize) -> usize
+fn line_end_in(text: &[u8], from: usize) -> usize
     requires { from ≤ length text.now }
     ensures place { result ≡ from + line_len (drop from text.now) }
     ensures bound { result ≤ length text.now }
@@ -27,9 +26,18 @@ pub(crate) fn line_end(text: &[u8], from: usize) -> usize
     text.len()
 }
 
+/// Where the line ends that goes on at a place: the place of its line feed, or the length.
+pub(crate) fn line_end(text: &str, from: usize) -> usize
+    requires { from ≤ length text.now }
+    ensures place { result ≡ from + line_len (drop from text.now) }
+    ensures bound { result ≤ length text.now }
+{
+    line_end_in(text.as_bytes(), from)
+}
+
 /// How many lines end before a place, from another on where so many end before that.
 #[tactic(auto, using(crate::proofs::Counting::feed_steps))]
-fn lines_ended(text: &[u8], from: usize, ended: usize, place: usize) -> usize
+fn lines_ended_in(text: &[u8], from: usize, ended: usize, place: usize) -> usize
     requires from { from ≤ place }
     requires place { place ≤ length text.now }
     requires ended { ended ≡ feeds (take from text.now) }
@@ -44,11 +52,21 @@ fn lines_ended(text: &[u8], from: usize, ended: usize, place: usize) -> usize
     count
 }
 
+/// How many lines end before a place of a text, from another on where so many end before that.
+fn lines_ended(text: &str, from: usize, ended: usize, place: usize) -> usize
+    requires from { from ≤ place }
+    requires place { place ≤ length text.now }
+    requires ended { ended ≡ feeds (take from text.now) }
+    ensures { result ≡ feeds (take place text.now) }
+{
+    lines_ended_in(text.as_bytes(), from, ended, place)
+}
+
 /// A line that counts for nothing: empty, or a comment.
-fn is_skipped(line: &[u8]) -> bool
+fn is_skipped(line: &str) -> bool
     ensures { result ≡ is_skipped line.now }
 {
-    line.is_empty() || line.starts_with(b"//")
+    line.is_empty() || line.as_bytes().starts_with(b"//")
 }
 
 /// A line without the blanks in front, where it then starts, and where it ends.
@@ -69,7 +87,7 @@ fn shown_at<'t>(text: &'t str, from: usize) -> Shown<'t>
     ensures end { result.end ≡ from + line_len (drop from text.now) }
     ensures end_in { result.end ≤ length text.now }
 {
-    let end = line_end(text.as_bytes(), from);
+    let end = line_end(text, from);
     let (_, rest) = text.split_at(from);
     let (whole, _) = rest.split_at(end - from);
     let line = whole.trim_start();
@@ -93,7 +111,7 @@ fn settle(text: &str, from: usize, ended: usize) -> (usize, usize)
     let mut before = ended;
     while at < text.len() {
         let shown = shown_at(text, at);
-        if !is_skipped(shown.line.as_bytes()) {
+        if !is_skipped(shown.line) {
             return (shown.start, before);
         }
         if shown.end >= text.len() {
@@ -113,7 +131,7 @@ fn line_from<'t>(text: &'t str, start: usize) -> Option<&'t str>
     if start >= text.len() {
         return None;
     }
-    let end = line_end(text.as_bytes(), start);
+    let end = line_end(text, start);
     let (_, rest) = text.split_at(start);
     let (line, _) = rest.split_at(end - start);
     Some(line)
@@ -159,6 +177,8 @@ fn placed<'t>(text: &'t str, raw: usize, ended: usize) -> Cursor<'t>
 }
 
 impl<'t> Cursor<'t> {
+    ghost use Rattle.lp_program.specs.Cursors.{left};
+
     /// The front of a text.
     pub(crate) fn new(text: &'t str) -> Cursor<'t>
         ensures text { result.text.now ≡ text.now }
@@ -213,7 +233,7 @@ impl<'t> Cursor<'t> {
         requires { place ≤ length self.now.text.now }
         ensures { place < length self.now.text.now → result ≡ feeds (take place self.now.text.now) + 1 }
     {
-        lines_ended(self.text.as_bytes(), 0, 0, place).saturating_add(1)
+        lines_ended(self.text, 0, 0, place).saturating_add(1)
     }
 
     /// The number of the line at a place; one past that of the last line where the text ends there.
@@ -240,7 +260,7 @@ impl<'t> Cursor<'t> {
         ensures text { result.text.now ≡ self.now.text.now }
         ensures rest { left result ≡ behind_line (settled (left self.now)) }
     {
-        let end = line_end(self.text.as_bytes(), self.start);
+        let end = line_end(self.text, self.start);
         if end >= self.text.len() {
             self.at(self.text.len())
         } else {
@@ -250,18 +270,23 @@ impl<'t> Cursor<'t> {
         }
     }
 
+    /// How many lines end before a place.
+    fn ended_before(&self, place: usize) -> usize
+        requires { place ≤ length self.now.text.now }
+        ensures { result ≡ feeds (take place self.now.text.now) }
+    {
+        if self.raw <= place {
+            return lines_ended(self.text, self.raw, self.ended, place);
+        }
+        lines_ended(self.text, 0, 0, place)
+    }
+
     /// Another place in the text.
     pub(crate) fn at(&self, place: usize) -> Cursor<'t>
         requires { IsCharBoundary self.now.text.now place }
         ensures text { result.text.now ≡ self.now.text.now }
         ensures rest { left result ≡ drop place self.now.text.now }
     {
-        let bytes = self.text.as_bytes();
-        let ended = if self.raw <= place {
-            lines_ended(bytes, self.raw, self.ended, place)
-        } else {
-            lines_ended(bytes, 0, 0, place)
-        };
-        placed(self.text, place, ended)
+        placed(self.text, place, self.ended_before(place))
     }
 }

@@ -137,7 +137,7 @@ fn row_step(text: &str, at: usize) -> RowStep
         return RowStep::Line(at + 1);
     }
     if stands_at(bytes, at, b"//") {
-        return RowStep::Skip(line_end(bytes, at));
+        return RowStep::Skip(line_end(text, at));
     }
     if ends_table(bytes[at]) {
         return RowStep::End;

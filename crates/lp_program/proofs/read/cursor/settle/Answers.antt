@@ -18,7 +18,7 @@ returns-then-not-is_skipped c =
     let text = c.args.text.now in
     let at = c.loop-at.at in
     let shown = c.shown_at.ensures in
-    let counts = ap is_skipped (sym shown.line) ∙ ap is_skipped (sym c.as_bytes.ensures.value) ∙ sym c.is_skipped.ensures ∙ c.if-not-is_skipped.true in
+    let counts = ap is_skipped (sym shown.line) ∙ sym c.is_skipped.ensures ∙ c.if-not-is_skipped.true in
     record {
       start = settling_found text _ c.args.from at c.loop-at.before _ c.loop-at.invariant c.loop-at-test.true counts shown.line shown.start;
       start_in = shown.start_in;
@@ -29,7 +29,7 @@ pub returns-then-shown-text : goal.returns-then-shown-text
 returns-then-shown-text c =
     let text = c.args.text.now in
     let shown = c.shown_at.ensures in
-    let skipped = ap is_skipped (sym shown.line) ∙ ap is_skipped (sym c.as_bytes.ensures.value) ∙ sym c.is_skipped.ensures ∙ c.if-not-is_skipped.false in
+    let skipped = ap is_skipped (sym shown.line) ∙ sym c.is_skipped.ensures ∙ c.if-not-is_skipped.false in
     let last = settling_last text c.args.from c.loop-at.at c.loop-at.before c.loop-at.invariant c.loop-at-test.true (omega (arith, shown.end)) skipped in
     record { start = last.0; start_in = IsCharBoundary-end text; before = last.1 }
 
@@ -37,7 +37,7 @@ pub loop-at-preserved : goal.loop-at-preserved
 loop-at-preserved c =
     let text = c.args.text.now in
     let shown = c.shown_at.ensures in
-    let skipped = ap is_skipped (sym shown.line) ∙ ap is_skipped (sym c.as_bytes.ensures.value) ∙ sym c.is_skipped.ensures ∙ c.if-not-is_skipped.false in
+    let skipped = ap is_skipped (sym shown.line) ∙ sym c.is_skipped.ensures ∙ c.if-not-is_skipped.false in
     settling_next text c.args.from c.loop-at.at c.loop-at.before _ c.utf8.text c.loop-at.invariant c.loop-at-test.true shown.end (omega arith) skipped
 
 pub loop-at-smaller : goal.loop-at-smaller

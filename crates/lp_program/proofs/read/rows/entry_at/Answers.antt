@@ -37,9 +37,10 @@ returns c =
     let behind = c.split_at-2.ensures.back ∙ ap (λ n. drop n rest) end in
     let begins = ap (λ (t : List ℕ). starts_with eqb t (codes ",")) (sym (c.as_bytes.ensures.value ∙ behind)) ∙ sym c.starts_with.ensures.value ∙ c.if-not-starts_with.false in
     let found = entry_some rest c.in-Some.number (ap number_of (sym spelled) ∙ sym c.number_of.ensures ∙ c.in-Some.is) begins in
-    let next = entry_next text rest at (number_end rest) (at + n + 1) c.split_at.ensures.back (ap (λ k. at + k + 1) end) in
-    (ap entry_in (sym c.split_at.ensures.back) ∙ found ∙ ap (λ (t : List ℕ). Some (c.in-Some.number, t)) next,
-    comma_cut text rest at (number_end rest) (at + n + 1) c.utf8.text c.split_at.ensures.back (ap (λ k. at + k + 1) end) c.requires.0 begins)
+    let next = entry_next text rest at (number_end rest) (at + n + 1) c.split_at.ensures.back (ap (λ k. at + k + 1) end) in (
+      ap entry_in (sym c.split_at.ensures.back) ∙ found ∙ ap (λ (t : List ℕ). Some (c.in-Some.number, t)) next,
+      comma_cut text rest at (number_end rest) (at + n + 1) c.utf8.text c.split_at.ensures.back (ap (λ k. at + k + 1) end) c.requires.0 begins,
+    )
 
 pub overflow_add-next : goal.overflow_add-next
 overflow_add-next c =

@@ -13,16 +13,17 @@ returns-then-at-bytes c = front_none c.args.text.now c.args.at (omega (arith, c.
 pub returns-then-ends_line : goal.returns-then-ends_line
 returns-then-ends_line c =
     let text = c.args.text.now in
-    let feed = sym c.ends_line.ensures ∙ c.if-ends_line.true in
-    (rw c.as_bytes-bytes.ensures.value at (front_feed text c.args.at (omega arith) (rw c.as_bytes-bytes.ensures.value at feed)),
-    IsCharBoundary-after_ascii text c.args.at c.utf8.text (omega arith) (omega (arith, eqb-true _ 10 (rw c.as_bytes-bytes.ensures.value at feed))))
+    let feed = sym c.ends_line.ensures ∙ c.if-ends_line.true in (
+      rw c.as_bytes-bytes.ensures.value at (front_feed text c.args.at (omega arith) (rw c.as_bytes-bytes.ensures.value at feed)),
+      IsCharBoundary-after_ascii text c.args.at c.utf8.text (omega arith) (omega (arith, eqb-true _ 10 (rw c.as_bytes-bytes.ensures.value at feed))),
+    )
 
 pub returns-then-stands_at : goal.returns-then-stands_at
 returns-then-stands_at c =
     let text = c.args.text.now in
     let at = c.args.at in
     let same = c.as_bytes-bytes.ensures.value in
-    let line = rw same at c.line_end.ensures.place in
+    let line = c.line_end.ensures.place in
     let found = front_comment text at (omega arith) (rw same at (sym c.ends_line.ensures ∙ c.if-ends_line.false)) (rw same at (sym c.stands_at.ensures ∙ c.if-stands_at.true)) in
     (found ∙ ap (λ i. skip (drop i text)) (sym line), subst (λ i. IsCharBoundary text i) (sym line) (line_boundary text at c.requires.0))
 
@@ -39,7 +40,7 @@ returns-then-lt0-blank c =
     let same = c.as_bytes-bytes.ensures.value in
     let len = c.blank_len-blank.ensures.value in
     let found = front_blank text at (omega arith) (rw same at (sym c.ends_line.ensures ∙ c.if-ends_line.false)) (rw same at (sym c.stands_at.ensures ∙ c.if-stands_at.false))
-        (rw same at (sym c.ends_table.ensures ∙ c.if-ends_table.false)) (omega (arith, len)) in
+    (rw same at (sym c.ends_table.ensures ∙ c.if-ends_table.false)) (omega (arith, len)) in
     (found ∙ ap (λ n. skip (drop (at + n) text)) (sym len), c.blank_len-blank.ensures.next)
 
 pub returns : goal.returns

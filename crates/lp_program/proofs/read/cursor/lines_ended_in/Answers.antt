@@ -1,7 +1,7 @@
 use Rattle.std.proofs.Common.{arith, sym, ap, ◌∙◌, ◌+◌}
 use Rattle.lp_program.proofs.Counting.{feeds_yes, feeds_no, feeds_le}
-use Rattle.lp_program.proofs.read.cursor.lines_ended.Goals as goal
-use Rattle.lp_program.proofs.read.cursor.lines_ended.Goals.{then-ends_line, else-ends_line}
+use Rattle.lp_program.proofs.read.cursor.lines_ended_in.Goals as goal
+use Rattle.lp_program.proofs.read.cursor.lines_ended_in.Goals.{then-ends_line, else-ends_line}
 
 pub overflow_add-count : goal.overflow_add-count
 overflow_add-count c = let a = feeds_le c.args.text.now c.loop-at.at in omega (arith, a)
