@@ -3,6 +3,7 @@ pub mod Fitting
 pub mod Cursors
 pub mod Counting
 pub mod Forests
+pub mod Grafts
 pub mod HoleSteps
 pub mod Printing
 pub mod Progress

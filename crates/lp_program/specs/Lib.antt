@@ -12,3 +12,4 @@ pub mod LineReading
 pub mod TableReading
 pub mod CodeReading
 pub mod LineHoles
+pub mod Reads
