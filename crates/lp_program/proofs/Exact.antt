@@ -178,15 +178,11 @@ apart prefix holes (p ∷ parts) h =
 -- a hole that its kind tells, or that is alone
 by_kind : (prefix : List ℕ) (kinds : List Kind) (holes : List (List ℕ)) (n : ℕ) (parts : List Piece) →
     kind_len prefix (kind_of kinds n) parts (get_or holes n [] ++ line_of prefix holes parts) ≡ length (get_or holes n []) → IsFound prefix kinds holes n parts
+unfolding hole_len
 by_kind prefix kinds holes n parts h = elim (cases_Bool (is_alone n parts)) [
   | inl y ↦ alone_found prefix kinds holes n parts y
-  | inr no ↦ kind_found prefix kinds holes n parts no h
+  | inr no ↦ cond-false (is_alone n parts) _ _ no ∙ h
 ]
-  where
-    kind_found : (prefix : List ℕ) (kinds : List Kind) (holes : List (List ℕ)) (n : ℕ) (parts : List Piece) → is_alone n parts ≡ false →
-        kind_len prefix (kind_of kinds n) parts (get_or holes n [] ++ line_of prefix holes parts) ≡ length (get_or holes n []) → IsFound prefix kinds holes n parts
-    unfolding hole_len
-    kind_found prefix kinds holes n parts no h = cond-false (is_alone n parts) _ _ no ∙ h
 
 pub name_found : (prefix : List ℕ) (kinds : List Kind) (holes : List (List ℕ)) (n : ℕ) (parts : List Piece) → kind_of kinds n ≡ kind.Name → is_apart parts ≡ true →
     list_all is_word (get_or holes n []) ≡ true → IsFound prefix kinds holes n parts

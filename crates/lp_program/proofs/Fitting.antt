@@ -9,7 +9,6 @@ use Rattle.std.specs.Result.{IfOk, OkIff, is_ok}
 use Rattle.std.specs.Char.{digit_value}
 use Rattle.std.specs.Str.{IsUtf8, is_utf8, IsCharBoundary}
 use Rattle.std.specs.Str.Parse.{AllDigits, IsNumeral, digits_value, without_leading_plus, ParsesUnsigned}
-use Rattle.std.specs.Str.Pattern.{HasSuffixMatch, FindsTextSuffix}
 use Rattle.std.proofs.lemmas.Bool.{and_parts, or_cases, cases_Bool, cond-true, cond-false, eqb-true, ltb-true, lt-ltb, leb-true, ne_eqb, false_from_ne_true, both_ways, MatchBool-at_true}
 use Rattle.std.proofs.lemmas.List.{at_drop_more, at_drop_all, drop_more}
 use Rattle.std.proofs.lemmas.Str.{digit_value_digit, IsUtf8-from_ascii, IsUtf8-from_is_utf8, is_utf8-from_IsUtf8}

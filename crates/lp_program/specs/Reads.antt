@@ -1,5 +1,5 @@
 -- The program that a text reads as: its parts take their lines off the text one after another, and nothing that counts is left.
-use Rattle.std.specs.Prelude.{◌≡◌, ℕ, zero, suc, ◌<◌, Bool, true, false, ◌&&◌, ◌==◌, nat_lt, nat_le, List, [], ◌∷◌, ◌++◌, length, Some, codes}
+use Rattle.std.specs.Prelude.{◌≡◌, ℕ, zero, suc, ◌+◌, ◌<◌, Bool, true, false, ◌&&◌, ◌==◌, nat_lt, nat_le, List, [], ◌∷◌, ◌++◌, length, get_or, Some, codes}
 use Rattle.std.specs.List.{list_all}
 use Rattle.lp_form.specs.Templates.{steps_of, holes_of, Piece}
 use Rattle.lp_form.specs.Templates as template
@@ -18,7 +18,8 @@ use Rattle.lp_program.specs.Trees.Forest.{bare, tree}
 use Rattle.lp_program.specs.Counting.{settled, front_line, behind_line}
 use Rattle.lp_program.specs.CodeReading.{IsUse, IsCode}
 use Rattle.lp_program.specs.TableReading.{entries}
-use Rattle.lp_program.specs.LineReading.{AllFill}
+use Rattle.lp_program.specs.Fillings.{Fills}
+use Rattle.lp_program.specs.LineReading.{kind_of}
 
 -- the next line that counts is this one
 pub record TakesLine (line text rest : List ℕ) : Type 0 where
@@ -31,7 +32,7 @@ abbrev pub TakesLines : ℕ → List ℕ → List ℕ → List ℕ → Type 0
 TakesLines zero line text rest = rest ≡ text
 TakesLines (suc n) line text rest = (mid : List ℕ) × TakesLine line text mid × TakesLines n line mid rest
 
--- what a step itself takes off a text, where so many trees stand below its part; empty lines and comments don't count
+-- what a step itself takes off a text, where so many trees stand below its part so far; empty lines and comments don't count
 abbrev pub TakesOwn : List ℕ → Content → ℕ → List Piece → Step → List ℕ → List ℕ → Type 0
 TakesOwn prefix c below pieces (step.Line blanks) text rest = TakesLine (line_of prefix c.holes pieces) text rest
 TakesOwn prefix c below pieces (step.Each blanks) text rest = TakesLines below (line_of prefix c.holes pieces) text rest
@@ -71,7 +72,27 @@ may_have (step.Some class) parts = nat_lt 0 (length parts) && list_all (is_membe
 may_have (step.Pairs first second) parts = are_pairs first second parts
 may_have _ parts = length parts == 0
 
--- what is to be read: trees side by side; or the steps that are left of a part, with the trees for them
+-- one for a step that is a text of its own
+abbrev pub is_text_step : Step → ℕ
+is_text_step step.Use = 1
+is_text_step step.Code = 1
+is_text_step _ = 0
+
+-- how many holes the steps have that no line tells: the texts of uses and of user code
+abbrev pub text_steps : List template.Line → ℕ
+text_steps [] = 0
+text_steps (s ∷ others) = is_text_step s.0 + text_steps others
+
+-- how many holes a part has
+abbrev pub hole_count : Part → ℕ
+hole_count p = length (holes_of p) + text_steps (steps_of p)
+
+-- each hole of a kind holds what it may
+abbrev pub KindsFill : List ℕ → Part → List (List ℕ) → Type 0
+KindsFill prefix p holes = (k : ℕ) → k < length (holes_of p) → Fills prefix (kind_of (holes_of p) k) (get_or holes k [])
+
+-- what is to be read: trees side by side; or the steps that are left of a part, where so many trees stand below it so
+-- far, with the trees for them
 pub data Task : Type 0 where
   trees : Forest → Task
   steps : Content → ℕ → List template.Line → Forest → Task
@@ -80,13 +101,13 @@ pub data Task : Type 0 where
 pub data Reads (prefix : List ℕ) : Task → List ℕ → List ℕ → Type 0 where
   no_tree : (text : List ℕ) → Reads prefix (trees bare) text text
   one_tree : (c : Content) (below after : Forest) (text mid rest : List ℕ) →
-      length c.holes ≡ length (holes_of c.part) → AllFill prefix (holes_of c.part) 0 c.holes →
-      Reads prefix (steps c (tree_count below) (steps_of c.part) below) text mid → Reads prefix (trees after) mid rest →
+      length c.holes ≡ hole_count c.part → KindsFill prefix c.part c.holes →
+      Reads prefix (steps c 0 (steps_of c.part) below) text mid → Reads prefix (trees after) mid rest →
       Reads prefix (trees (tree c below after)) text rest
   no_step : (c : Content) (count : ℕ) (text : List ℕ) → Reads prefix (steps c count [] bare) text text
   one_step : (c : Content) (count : ℕ) (s : template.Line) (others : List template.Line) (now later : Forest) (text own mid rest : List ℕ) →
       may_have s.0 (parts_in now) ≡ true → TakesOwn prefix c count s.1 s.0 text own → Reads prefix (trees now) own mid →
-      Reads prefix (steps c count others later) mid rest → Reads prefix (steps c count (s ∷ others) (graft now later)) text rest
+      Reads prefix (steps c (count + tree_count now) others later) mid rest → Reads prefix (steps c count (s ∷ others) (graft now later)) text rest
 
 -- a prefix: not empty, and the front of names, as of that which the standard uses show
 abbrev pub is_prefix : List ℕ → Bool
