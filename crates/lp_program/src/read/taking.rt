@@ -56,8 +56,12 @@ pub(crate) fn take_use<'t>(cursor: Cursor<'t>) -> Option<Taken<'t>>
     ensures { IfSome result (λ taken. IsTaken cursor.entry taken.next × codes_of.IsUse (left cursor.entry) taken.text.now (left taken.next)) }
 {
     let text = cursor.text();
-    let from = use_start(cursor)?;
-    let end = cut_end(text, from)?;
+    let Some(from) = use_start(cursor) else {
+        return None;
+    };
+    let Some(end) = cut_end(text, from) else {
+        return None;
+    };
     let (_, behind) = text.split_at(end);
     if !behind.starts_with(";") {
         return None;
@@ -67,7 +71,9 @@ pub(crate) fn take_use<'t>(cursor: Cursor<'t>) -> Option<Taken<'t>>
     if !ends_there(rest.as_bytes()) {
         return None;
     }
-    let used = text.get(from..end)?;
+    let Some(used) = text.get(from..end) else {
+        return None;
+    };
     Some(Taken {
         text: used,
         next: cursor.at(next),
@@ -91,12 +97,16 @@ pub(crate) fn take_code<'t>(cursor: Cursor<'t>) -> Option<Taken<'t>>
 {
     let text = cursor.text();
     let from = cursor.raw();
-    let end = cut_end(text, from)?;
+    let Some(end) = cut_end(text, from) else {
+        return None;
+    };
     let (_, behind) = text.split_at(end);
     if !behind.starts_with("}") {
         return None;
     }
-    let whole = text.get(from..end)?;
+    let Some(whole) = text.get(from..end) else {
+        return None;
+    };
     Some(Taken {
         text: without_feed(whole),
         next: cursor.at(end),

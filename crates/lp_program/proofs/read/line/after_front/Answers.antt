@@ -2,4 +2,4 @@ use Rattle.lp_program.proofs.Reading.{stripped}
 use Rattle.lp_program.proofs.read.line.after_front.Goals as goal
 
 pub returns-clause-exact : goal.returns-clause-exact
-returns-clause-exact c = stripped c.args.front.now c.args.text.now c.strip_prefix.result c.strip_prefix.ensures
+returns-clause-exact c = stripped c.args.front.now c.args.text.now c.strip_prefix.result c.strip_prefix.ensures.cases

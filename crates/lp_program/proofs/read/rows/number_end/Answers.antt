@@ -3,6 +3,11 @@ use Rattle.std.specs.List.{prefix_len}
 use Rattle.lp_program.specs.HoleEnds.{is_digit}
 use Rattle.lp_program.proofs.read.rows.number_end.Goals as goal
 
+pub overflow_add-end : goal.overflow_add-end
+overflow_add-end c =
+    let size = length-drop c.sign_len-sign.result c.args.text.now in
+    omega (arith, c.digit_run.ensures.bound, c.rest_from.ensures, c.sign_len-sign.ensures.bound, size)
+
 pub returns : goal.returns
 returns c =
     let text = c.args.text.now in

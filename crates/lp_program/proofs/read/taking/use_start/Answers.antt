@@ -9,7 +9,7 @@ pub returns : goal.returns
 returns c =
     let text = c.text-text.result.now in
     let start = c.start-start.result in
-    let off = c.in-Some.ensures in
+    let off = c.in-Some.ensures.cases in
     let front : c.split_at.result.1.now ≡ codes "use " ++ c.in-Some.behind.now = off.1.1 ∙ ap (λ x. codes "use " ++ x) (sym off.2) in
     let there = behind_front text c.split_at.result.1.now c.in-Some.behind.now (codes "use ") start c.start-start.ensures.start_in.0 c.split_at.ensures.back front in
     record {

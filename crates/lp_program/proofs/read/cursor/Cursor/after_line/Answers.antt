@@ -7,27 +7,27 @@ use Rattle.lp_program.proofs.Counting.{feeds_le, behind_at, feeds_behind, next_b
 use Rattle.lp_program.proofs.read.cursor.Cursor.after_line.Goals as goal
 
 pub overflow_add-ended : goal.overflow_add-ended
-overflow_add-ended c = let s = c.args.self.now in let a = feeds_le s.text.now s.start in omega (arith, a, s.start_ended, c.line_end.ensures.place)
+overflow_add-ended c = let s = c.args.self.now in let a = feeds_le s.text.now s.start in omega (arith, a, s.start_ended, c.line_end-end.ensures.place)
 
 pub at-requires : goal.at-requires
 at-requires c = IsCharBoundary-end c.args.self.now.text.now
 
-pub placed-requires-raw : goal.placed-requires-raw
-placed-requires-raw c =
+pub placed-requires-clause-raw : goal.placed-requires-clause-raw
+placed-requires-clause-raw c =
     let s = c.args.self.now in
-    let e = c.line_end.ensures.place in
+    let e = c.line_end-end.ensures.place in
     subst (λ i. IsCharBoundary s.text.now (i + 1)) (sym e) (next_boundary s.text.now s.start c.utf8.self.text (omega (arith, e)))
 
-pub placed-requires-ended : goal.placed-requires-ended
-placed-requires-ended c =
+pub placed-requires-clause-ended : goal.placed-requires-clause-ended
+placed-requires-clause-ended c =
     let s = c.args.self.now in
-    let e = c.line_end.ensures.place in
+    let e = c.line_end-end.ensures.place in
     ap (λ n. n + 1) s.start_ended ∙ sym (feeds_behind s.text.now s.start (omega (arith, e))) ∙ ap (λ i. feeds (take (i + 1) s.text.now)) (sym e)
 
 pub returns-then-end-text : goal.returns-then-end-text
 returns-then-end-text c =
     let s = c.args.self.now in
-    let e = c.line_end.ensures.place in
+    let e = c.line_end-end.ensures.place in
     record {
       text = c.at.ensures.text;
       rest = c.at.ensures.rest ∙ drop_all _ s.text.now (omega arith) ∙ sym (behind_at s.text.now _ s.start s.start_is ∙ drop_all _ s.text.now (omega (arith, e)));
@@ -36,9 +36,9 @@ returns-then-end-text c =
 pub returns : goal.returns
 returns c =
     let s = c.args.self.now in
-    let e = c.line_end.ensures.place in
+    let e = c.line_end-end.ensures.place in
     record {
       text = c.placed.ensures.text;
-      rest = ap (λ i. drop i c.placed.result.text.now) c.placed.ensures.raw ∙ ap (λ t. drop (c.line_end.result + 1) t) c.placed.ensures.text
+      rest = ap (λ i. drop i c.placed.result.text.now) c.placed.ensures.raw ∙ ap (λ t. drop (c.line_end-end.result + 1) t) c.placed.ensures.text
           ∙ ap (λ i. drop (i + 1) s.text.now) e ∙ sym (behind_at s.text.now _ s.start s.start_is);
     }

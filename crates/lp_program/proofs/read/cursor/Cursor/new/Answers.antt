@@ -2,8 +2,8 @@ use Rattle.std.proofs.Common.{ap, ◌∙◌, drop}
 use Rattle.std.proofs.lemmas.Str.{IsCharBoundary-start}
 use Rattle.lp_program.proofs.read.cursor.Cursor.new.Goals as goal
 
-pub placed-requires-raw : goal.placed-requires-raw
-placed-requires-raw c = IsCharBoundary-start c.args.text.now c.utf8.text
+pub placed-requires-clause-raw : goal.placed-requires-clause-raw
+placed-requires-clause-raw c = IsCharBoundary-start c.args.text.now c.utf8.text
 
 pub returns : goal.returns
 returns c = record {
