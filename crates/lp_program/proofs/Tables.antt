@@ -18,7 +18,7 @@ use Rattle.lp_program.specs.Counting.{line_len}
 use Rattle.lp_program.specs.HoleEnds.{is_digit}
 use Rattle.lp_program.specs.Fillings.{is_number}
 use Rattle.lp_program.specs.LineReading.{◌>>=◌, after}
-use Rattle.lp_program.specs.TableReading.{negative_of, positive_of, number_of, sign_len, number_end, entry_in, blank_len, Front, feed, skip, ends, entry, wrong, entry_front, front_after_blank, front_of, Table, with_number, goes_on_after, entries_within, entries, ReadsTable, IsFront, IsEntryAt}
+use Rattle.lp_program.specs.TableReading.{negative_of, positive_of, number_of, sign_len, number_end, entry_in, blank_len, Front, feed, skip, ends, found_entry, wrong, entry_front, front_after_blank, front_of, Table, with_number, goes_on_after, entries_within, entries, ReadsTable, IsFront, IsEntryAt}
 use Rattle.lp_program.proofs.Fitting.{all_digits, number_parts}
 use Rattle.lp_program.proofs.Reading.{starts_ok}
 
@@ -230,12 +230,12 @@ so_far_start text from b = record {
 }
 
 pub so_far_entry : (text : List ℕ) (m n at next : ℕ) (at_front : Bool) (numbers new : List ℤ) (z : ℤ) (all : Option Table) → SoFar text m at at_front numbers all → m ≡ n + 1 →
-    front_of (drop at text) ≡ entry z (drop next text) → IsCharBoundary text next → new ≡ numbers ++ z ∷ [] → SoFar text n next false new all
+    front_of (drop at text) ≡ found_entry z (drop next text) → IsCharBoundary text next → new ≡ numbers ++ z ∷ [] → SoFar text n next false new all
 so_far_entry text m n at next at_front numbers new z all s e f b is = record {
   at_in = b;
   same = ap (λ (l : List ℤ). entries_within n false (drop next text) >>= λ t. Some (l ++ t.0, t.1)) is
       ∙ bind_push (entries_within n false (drop next text)) numbers z
-      ∙ ap (λ (o : Option Table). o >>= λ t. Some (numbers ++ t.0, t.1)) (sym (within_goes m n at_front (drop at text) (entry z (drop next text)) e f))
+      ∙ ap (λ (o : Option Table). o >>= λ t. Some (numbers ++ t.0, t.1)) (sym (within_goes m n at_front (drop at text) (found_entry z (drop next text)) e f))
       ∙ s.same;
 }
 

@@ -51,12 +51,12 @@ pub data Front : Type 0 where
   feed : List ℕ → Front
   skip : List ℕ → Front
   ends : Front
-  entry : ℤ → List ℕ → Front
+  found_entry : ℤ → List ℕ → Front
   wrong : Front
 
 abbrev pub entry_front : Option (ℤ × List ℕ) → Front
 entry_front None = wrong
-entry_front (Some e) = entry e.0 e.1
+entry_front (Some e) = found_entry e.0 e.1
 
 abbrev pub front_after_blank : List ℕ → Front
 front_after_blank text = if nat_lt 0 (blank_len text) then skip (drop (blank_len text) text) else entry_front (entry_in text)
@@ -81,7 +81,7 @@ abbrev pub goes_on_after : (Bool → List ℕ → Option Table) → Bool → Lis
 goes_on_after go at_front text (feed rest) = go true rest
 goes_on_after go at_front text (skip rest) = go at_front rest
 goes_on_after go at_front text ends = if at_front then Some ([], text) else None
-goes_on_after go at_front text (entry z rest) = go false rest >>= λ table. Some (with_number z table)
+goes_on_after go at_front text (found_entry z rest) = go false rest >>= λ table. Some (with_number z table)
 goes_on_after go at_front text wrong = None
 
 -- in at most n steps, where nothing or something stands before on the line
@@ -101,7 +101,7 @@ IsEntryAt text at _ = ⊥
 
 -- what the code finds at a place
 abbrev pub IsFront : List ℕ → ℕ → RowStep → Type 0
-IsFront text at (step.Entry z next) = (front_of (drop at text) ≡ entry z (drop next text)) × IsCharBoundary text next
+IsFront text at (step.Entry z next) = (front_of (drop at text) ≡ found_entry z (drop next text)) × IsCharBoundary text next
 IsFront text at (step.Line next) = (front_of (drop at text) ≡ feed (drop next text)) × IsCharBoundary text next
 IsFront text at (step.Skip next) = (front_of (drop at text) ≡ skip (drop next text)) × IsCharBoundary text next
 IsFront text at step.End = front_of (drop at text) ≡ ends

@@ -14,7 +14,7 @@ pub returns-then-ends_line : goal.returns-then-ends_line
 returns-then-ends_line c =
     let text = c.args.text.now in
     let feed = sym c.ends_line.ensures ∙ c.if-ends_line.true in (
-      rw c.as_bytes-bytes.ensures.value at (front_feed text c.args.at (omega arith) (rw c.as_bytes-bytes.ensures.value at feed)),
+      front_feed text c.args.at (omega arith) (rw c.as_bytes-bytes.ensures.value at feed),
       IsCharBoundary-after_ascii text c.args.at c.utf8.text (omega arith) (omega (arith, eqb-true _ 10 (rw c.as_bytes-bytes.ensures.value at feed))),
     )
 
