@@ -4,6 +4,7 @@ pub mod Cursors
 pub mod Counting
 pub mod Forests
 pub mod Grafts
+pub mod Growing
 pub mod HoleSteps
 pub mod Printing
 pub mod Progress

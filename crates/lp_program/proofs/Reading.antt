@@ -278,3 +278,8 @@ reading_ends prefix kinds all parts old known line rest i true le r e =
 reading_ends prefix kinds all parts old known line rest i false le r e = λ holes read f.
     let no : line_at prefix kinds all old line ≡ None = sym r.same ∙ line_over prefix kinds parts known rest i le ∙ cond-false (eqb (length rest) 0) _ _ (sym e) in
     cc (sym no ∙ read)
+
+-- what fills the holes of a line that was read
+pub reads_true : (prefix : List ℕ) (kinds : List Kind) (old new : List (List ℕ)) (read : Option (List (List ℕ))) (b : Bool) → b ≡ true → ReadsLine prefix kinds old new read b → AllFill prefix kinds (length old) new
+reads_true prefix kinds old new read true e h = h.1
+reads_true prefix kinds old new read false e h = absurd (false≢true e)

@@ -23,7 +23,7 @@ slot_stays prefix known more Prefix h = refl
 slot_stays prefix known more (Hole k) h = get_or_append_left known more [] k h
 
 -- more holes change nothing in parts that are told
-line_stays : (prefix : List ℕ) (known more : List (List ℕ)) (parts : List Piece) → AreTold (length known) parts →
+pub line_stays : (prefix : List ℕ) (known more : List (List ℕ)) (parts : List Piece) → AreTold (length known) parts →
     line_of prefix (known ++ more) parts ≡ line_of prefix known parts
 unfolding line_of AreTold
 line_stays prefix known more [] h = refl

@@ -13,3 +13,4 @@ pub mod TableReading
 pub mod CodeReading
 pub mod LineHoles
 pub mod Reads
+pub mod Growing

@@ -3,6 +3,7 @@
 mod cursor;
 mod ends;
 mod fill;
+mod growing;
 mod line;
 mod reader;
 mod rows;
