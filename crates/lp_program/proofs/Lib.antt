@@ -6,6 +6,7 @@ pub mod Forests
 pub mod Grafts
 pub mod Growing
 pub mod HoleSteps
+pub mod Parts
 pub mod Printing
 pub mod Progress
 pub mod Reading

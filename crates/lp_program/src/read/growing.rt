@@ -62,14 +62,14 @@ pub(crate) fn lines_step<'t>(
     ensures grows { IfOk result (λ r. IfSome r (λ next. Grows scope.entry.prefix.now growing.old growing.new)) }
     ensures takes { IfOk result (λ r. IfSome r (λ next. (c : _) → MayBecome growing.new c → TakesLines count (line_of scope.entry.prefix.now c.holes (map piece pieces.now)) (left cursor.entry) (left next))) }
 {
-    let mut now = cursor;
+    let mut place = cursor;
     for _i in 0..count {
-        let Some(next) = line_step(scope, pieces, growing, now)? else {
+        let Some(next) = line_step(scope, pieces, growing, place)? else {
             return Ok(None);
         };
-        now = next;
+        place = next;
     }
-    Ok(Some(now))
+    Ok(Some(place))
 }
 
 /// Takes the use of a part that has no other hole.

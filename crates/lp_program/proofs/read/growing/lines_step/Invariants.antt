@@ -11,7 +11,7 @@ use Rattle.lp_program.proofs.read.growing.lines_step.Given as goal
 abbrev pub invariant-loop-i : goal.invariant-loop-i
 invariant-loop-i l = record {
   kinds : l.scope.kinds.now ≡ holes_of l.growing.part;
-  same : IsTaken l.cursor l.now;
+  same : IsTaken l.cursor l.place;
   grows : Grows l.scope.prefix.now l.initial.growing l.growing;
-  takes : (c : Content) → MayBecome l.growing c → TakesLines l._i (line_of l.scope.prefix.now c.holes (map piece l.pieces)) (left l.cursor) (left l.now);
+  takes : (c : Content) → MayBecome l.growing c → TakesLines l._i (line_of l.scope.prefix.now c.holes (map piece l.pieces)) (left l.cursor) (left l.place);
 }
