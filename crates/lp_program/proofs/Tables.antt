@@ -4,13 +4,13 @@ use Rattle.std.proofs.Common.{◌≡◌, ℕ, ℤ, pos, neg_ℤ, ◌+◌, ◌-�
 use Rattle.std.proofs.Math.Dec.{leb}
 use Rattle.std.specs.List.{starts_with, prefix_len, list_all}
 use Rattle.std.specs.Result.{OkIff}
-use Rattle.std.specs.Char.{is_whitespace, len_utf8}
+use Rattle.std.specs.Char.{encode_utf8, is_whitespace, len_utf8}
 use Rattle.std.specs.Str.{IsUtf8, IsCharBoundary, bytes_eq, chars}
 use Rattle.std.specs.Str.Parse.{AllDigits, digits_value, ParsesSigned}
-use Rattle.std.proofs.lemmas.Bool.{and_parts, cases_Bool, cond-true, cond-false, eqb-true, leb-true, le-leb, ltb-true, lt-ltb, false_from_ne_true}
-use Rattle.std.proofs.lemmas.List.{at_drop_more, at_drop_all, drop_more, drop-drop, get_or-drop}
+use Rattle.std.proofs.lemmas.Bool.{and_parts, cases_Bool, cond-true, cond-false, cond_both, eqb-true, leb-true, le-leb, ltb-true, lt-ltb, false_from_ne_true}
+use Rattle.std.proofs.lemmas.List.{at_drop_more, at_drop_all, drop_more, drop-drop, get_or-drop, nil_from_length}
 use Rattle.std.proofs.lemmas.List.Sums.{prefix_len_passes, prefix_len-le-length}
-use Rattle.std.proofs.lemmas.Str.{IsCharBoundary-start, IsCharBoundary-after_ascii, IsCharBoundary-from_rest}
+use Rattle.std.proofs.lemmas.Str.{chars-nil, chars_past_char, IsCharBoundary-start, IsCharBoundary-after_ascii, IsCharBoundary-past_char}
 use Rattle.std.proofs.lemmas.Str.Parse.{IsNumeralModel, numerals_by_value, tells_digits, parse_signed_minus, parse_signed_plain}
 use Rattle.lp_program.specs.declared.read.rows.RowStep.{RowStep}
 use Rattle.lp_program.specs.declared.read.rows.RowStep.TheVariants as step
@@ -18,7 +18,7 @@ use Rattle.lp_program.specs.Counting.{line_len}
 use Rattle.lp_program.specs.HoleEnds.{is_digit}
 use Rattle.lp_program.specs.Fillings.{is_number}
 use Rattle.lp_program.specs.LineReading.{◌>>=◌, after}
-use Rattle.lp_program.specs.TableReading.{negative_of, positive_of, number_of, sign_len, number_end, entry_in, blank_len, Front, feed, skip, ends, found_entry, wrong, entry_front, front_after_blank, front_of, Table, with_number, goes_on_after, entries_within, entries, ReadsTable, IsFront, IsEntryAt}
+use Rattle.lp_program.specs.TableReading.{negative_of, positive_of, number_of, sign_len, number_end, entry_in, char_blank, blank_of, blank_len, Front, feed, skip, ends, found_entry, wrong, entry_front, front_after_blank, front_of, Table, with_number, goes_on_after, entries_within, entries, ReadsTable, IsFront, IsEntryAt}
 use Rattle.lp_program.proofs.Fitting.{all_digits, number_parts}
 use Rattle.lp_program.proofs.Reading.{starts_ok}
 
@@ -113,6 +113,20 @@ sign_cut text u = elim (cases_Bool (starts_with eqb text (codes "-"))) [
 
 pub number_cut : (text : List ℕ) → IsUtf8 text → IsCharBoundary text (number_end text)
 number_cut text u = digits_cut text (sign_len text) (prefix_len is_digit (drop (sign_len text) text)) u (sign_cut text u) refl
+
+-- a blank in front
+pub blank_none : (text : List ℕ) → length text ≡ 0 → blank_len text ≡ 0
+blank_none text h = ap blank_len (nil_from_length text h) ∙ ap blank_of chars-nil
+
+pub blank_some : (text rest : List ℕ) (c : ℕ) → IsUtf8 text → text ≡ encode_utf8 c ++ rest → blank_len text ≡ char_blank c
+blank_some text rest c u e = ap blank_of (chars_past_char text rest c u e)
+
+pub char_cut : (text rest : List ℕ) (c n : ℕ) → IsUtf8 text → text ≡ encode_utf8 c ++ rest → n ≡ char_blank c → IsCharBoundary text n
+char_cut text rest c n u e h =
+    subst (λ i. IsCharBoundary text i) (sym h)
+    (cond_both (is_whitespace c) (len_utf8 c) 0 (λ i. IsCharBoundary text i)
+    (λ w. subst (λ i. IsCharBoundary text i) (omega arith) (IsCharBoundary-past_char text rest 0 c (omega arith) u e))
+    (λ w. IsCharBoundary-start text u))
 
 -- the entry in front
 pub entry_none : (text : List ℕ) → number_of (take (number_end text) text) ≡ None → entry_in text ≡ None

@@ -39,9 +39,12 @@ entry_in text =
     Some (z, rest)
 
 -- how many bytes a blank in front has
+abbrev pub char_blank : ℕ → ℕ
+char_blank c = if is_whitespace c then len_utf8 c else 0
+
 abbrev pub blank_of : List ℕ → ℕ
 blank_of [] = 0
-blank_of (c ∷ cs) = if is_whitespace c then len_utf8 c else 0
+blank_of (c ∷ cs) = char_blank c
 
 abbrev pub blank_len : List ℕ → ℕ
 blank_len text = blank_of (chars text)

@@ -103,6 +103,25 @@ fn entry_at(text: &str, at: usize) -> RowStep
     RowStep::Entry(number, next)
 }
 
+/// How many bytes a character has, if it is a blank.
+fn char_blank(c: char) -> usize
+    ensures { result ≡ tables.char_blank c }
+{
+    if c.is_whitespace() { c.len_utf8() } else { 0 }
+}
+
+/// How many bytes a blank in front has.
+fn first_blank(text: &str) -> usize
+    ensures value { result ≡ tables.blank_len text.now }
+    ensures cut { IsCharBoundary text.now result }
+{
+    let mut chars = text.chars();
+    match chars.next() {
+        None => 0,
+        Some(c) => char_blank(c),
+    }
+}
+
 /// How many bytes a blank at a place has.
 fn blank_len(text: &str, at: usize) -> usize
     requires { IsCharBoundary text.now at }
@@ -110,10 +129,7 @@ fn blank_len(text: &str, at: usize) -> usize
     ensures next { IsCharBoundary text.now (at + result) }
 {
     let (_, rest) = text.split_at(at);
-    match rest.chars().next() {
-        None => 0,
-        Some(c) => { if c.is_whitespace() { c.len_utf8() } else { 0 } }
-    }
+    first_blank(rest)
 }
 
 /// Whether a byte is the `]` that ends a table.
