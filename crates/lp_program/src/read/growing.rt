@@ -1,6 +1,7 @@
 //! What a step itself takes off a text.
 
-ghost use Rattle.std.specs.Prelude.{◌≡◌, map, length, IfOk, IfSome};
+ghost use Rattle.std.specs.Prelude.{◌≡◌, ℕ, List, map, length, IfOk, IfSome};
+ghost use Rattle.std.specs.Bool.{OnTrue};
 ghost use Rattle.lp_form.specs.Templates.{piece, holes_of};
 ghost use Rattle.lp_program.specs.Lines.{line_of};
 ghost use Rattle.lp_program.specs.OwnLines.{hole};
@@ -49,39 +50,38 @@ pub(crate) fn line_step<'t>(
     Ok(Some(cursor.after_line()))
 }
 
-/// Takes so many lines of one spelling.
+/// Takes so many lines of one spelling, and gives the place behind them, and whether all were there.
 pub(crate) fn lines_step<'t>(
     scope: Scope<'_>,
     count: usize,
     pieces: &[LinePart],
     growing: &mut Growing<'t>,
     cursor: Cursor<'t>,
-) -> Result<Option<Cursor<'t>>, AllocError>
+) -> Result<(Cursor<'t>, bool), AllocError>
     requires { scope.entry.kinds.now ≡ holes_of growing.old.part }
-    ensures same { IfOk result (λ r. IfSome r (IsTaken cursor.entry)) }
-    ensures grows { IfOk result (λ r. IfSome r (λ next. Grows scope.entry.prefix.now growing.old growing.new)) }
-    ensures takes { IfOk result (λ r. IfSome r (λ next. (c : _) → MayBecome growing.new c → TakesLines count (line_of scope.entry.prefix.now c.holes (map piece pieces.now)) (left cursor.entry) (left next))) }
+    ensures same { IfOk result (λ r. IsTaken cursor.entry r.0) }
+    ensures grows { IfOk result (λ r. OnTrue r.1 (Grows scope.entry.prefix.now growing.old growing.new)) }
+    ensures takes { IfOk result (λ r. OnTrue r.1 ((c : _) → MayBecome growing.new c → TakesLines count (line_of scope.entry.prefix.now c.holes (map piece pieces.now)) (left cursor.entry) (left r.0))) }
 {
     let mut place = cursor;
     for _i in 0..count {
         let Some(next) = line_step(scope, pieces, growing, place)? else {
-            return Ok(None);
+            return Ok((place, false));
         };
         place = next;
     }
-    Ok(Some(place))
+    Ok((place, true))
 }
 
 /// Takes the use of a part that has no other hole.
 pub(crate) fn use_step<'t>(
-    scope: Scope<'_>,
     growing: &mut Growing<'t>,
     cursor: Cursor<'t>,
 ) -> Result<Option<Cursor<'t>>, AllocError>
     requires kinds { length (holes_of growing.old.part) ≡ 0 }
     requires first { length growing.old.holes.items ≡ 0 }
     ensures same { IfOk result (λ r. IfSome r (IsTaken cursor.entry)) }
-    ensures grows { IfOk result (λ r. IfSome r (λ next. Grows scope.entry.prefix.now growing.old growing.new)) }
+    ensures grows { IfOk result (λ r. IfSome r (λ next. (prefix : List ℕ) → Grows prefix growing.old growing.new)) }
     ensures takes { IfOk result (λ r. IfSome r (λ next. (c : _) → MayBecome growing.new c → IsUse (left cursor.entry) (hole c 0) (left next))) }
 {
     let Some(taken) = take_use(cursor) else {
@@ -95,14 +95,13 @@ pub(crate) fn use_step<'t>(
 
 /// Takes the code of a part that has no other hole.
 pub(crate) fn code_step<'t>(
-    scope: Scope<'_>,
     growing: &mut Growing<'t>,
     cursor: Cursor<'t>,
 ) -> Result<Option<Cursor<'t>>, AllocError>
     requires kinds { length (holes_of growing.old.part) ≡ 0 }
     requires first { length growing.old.holes.items ≡ 0 }
     ensures same { IfOk result (λ r. IfSome r (IsTaken cursor.entry)) }
-    ensures grows { IfOk result (λ r. IfSome r (λ next. Grows scope.entry.prefix.now growing.old growing.new)) }
+    ensures grows { IfOk result (λ r. IfSome r (λ next. (prefix : List ℕ) → Grows prefix growing.old growing.new)) }
     ensures takes { IfOk result (λ r. IfSome r (λ next. (c : _) → MayBecome growing.new c → IsCode (left cursor.entry) (hole c 0) (left next))) }
 {
     let Some(taken) = take_code(cursor) else {

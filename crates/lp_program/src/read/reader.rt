@@ -1,8 +1,12 @@
 //! The reader of programs: by the templates of the parts, from the front of the text on.
 
+ghost use Rattle.std.specs.Prelude.{◌≡◌, length, IsTrue};
+ghost use Rattle.lp_form.specs.Templates.{holes_of};
+
 use crate::read::cursor::Cursor;
+use crate::read::growing::{Growing, code_step, line_step, lines_step, use_step};
 use crate::read::line::{Scope, read_line};
-use crate::read::taking::{TakenTable, cut_line, take_code, take_entries, take_use};
+use crate::read::taking::{TakenTable, cut_line, take_entries, take_use};
 use lp_form::{Class, Line, Part, Step, holes, members, steps};
 use lp_texts::is_identifier;
 use lp_tree::piece::Piece;
@@ -101,8 +105,18 @@ fn prefix_of(text: &str) -> &str {
     NO_PREFIX
 }
 
+/// Whether a part that is being read has no hole that a line tells, and none so far.
+fn is_blank_part(growing: &Growing<'_>) -> bool
+    ensures { IsTrue result → (length (holes_of growing.now.part) ≡ 0) × (length growing.now.holes.items ≡ 0) }
+{
+    holes(growing.part).is_empty() && growing.holes.is_empty()
+}
+
 impl<'t> Reader<'t> {
-    fn scope(&self, part: Part) -> Scope<'t> {
+    fn scope(&self, part: Part) -> Scope<'t>
+        ensures prefix { result.prefix.now ≡ self.now.prefix.now }
+        ensures kinds { result.kinds.now ≡ holes_of part }
+    {
         Scope {
             alloc: self.alloc,
             prefix: self.prefix,
@@ -141,36 +155,39 @@ impl<'t> Reader<'t> {
             notes: Vec::new(self.alloc),
             below: 0,
         })?;
-        let mut known = Vec::new(self.alloc);
+        let mut growing = Growing {
+            part,
+            holes: Vec::new(self.alloc),
+            numbers: Vec::new(self.alloc),
+            tabled: false,
+        };
         for step in steps(part) {
-            if !self.read_step(depth - 1, at, *step, &mut known)? {
+            if !self.read_own(at, *step, &mut growing)?
+                || !self.read_below(depth - 1, at, step.0)?
+            {
                 return Ok(false);
             }
         }
-        self.finish(at, known);
+        self.finish(at, growing);
         Ok(true)
     }
 
     /// Puts in what was not known when a part was added.
-    fn finish(&mut self, at: usize, known: Vec<Piece<'t>>) {
+    fn finish(&mut self, at: usize, growing: Growing<'t>) {
+        let Growing { holes, numbers, .. } = growing;
         let count = self.entries.len();
         if at < count {
             let entry = &mut self.entries[at];
-            entry.holes = known;
+            entry.holes = holes;
+            entry.numbers = numbers;
             entry.below = count - at - 1;
         }
     }
 
-    /// Reads what a step prints.
+    /// Reads the parts that a step has.
     #[cycle(reading)]
-    fn read_step(
-        &mut self,
-        depth: usize,
-        at: usize,
-        step: Line,
-        known: &mut Vec<Piece<'t>>,
-    ) -> Result<bool, AllocError> {
-        match step.0 {
+    fn read_below(&mut self, depth: usize, at: usize, step: Step) -> Result<bool, AllocError> {
+        match step {
             Step::One(class) => self.read_class(depth, at, class),
             Step::Optional(class) => self.read_optional(depth, class),
             Step::Many(class) => self.read_many(depth, class),
@@ -178,32 +195,57 @@ impl<'t> Reader<'t> {
                 self.read_class(depth, at, class)? && self.read_many(depth, class)?,
             ),
             Step::Pairs(first, second) => self.read_pairs(depth, at, first, second),
-            _ => self.read_own(at, step, known),
+            _ => Ok(true),
         }
     }
 
-    /// Reads what a step prints that has no parts below.
+    /// Takes what a step prints itself.
     fn read_own(
         &mut self,
         at: usize,
         step: Line,
-        known: &mut Vec<Piece<'t>>,
+        growing: &mut Growing<'t>,
     ) -> Result<bool, AllocError> {
+        let scope = self.scope(growing.part);
         match step.0 {
-            Step::Line(_) => self.take_line(at, step, known),
-            Step::Each(_) => {
-                for _ in 0..self.kids_of(at) {
-                    if !self.take_line(at, step, known)? {
-                        return Ok(false);
-                    }
-                }
-                Ok(true)
+            Step::Line(_) => {
+                let next = line_step(scope, step.1, growing, self.cursor)?;
+                Ok(self.goes_on(next))
             }
-            Step::Use => self.take_use(known),
-            Step::Code => self.take_code(known),
-            Step::Entries => self.take_entries(at),
+            Step::Each(_) => {
+                let count = self.kids_of(at);
+                let (place, all) = lines_step(scope, count, step.1, growing, self.cursor)?;
+                self.cursor = place;
+                if !all {
+                    self.miss_here();
+                }
+                Ok(all)
+            }
+            Step::Use => self.take_use(growing),
+            Step::Code => self.take_code(growing),
+            Step::Entries => self.take_entries(growing),
             _ => Ok(true),
         }
+    }
+
+    /// Goes on behind what was taken; where nothing was, the next line doesn't fit.
+    fn goes_on(&mut self, next: Option<Cursor<'t>>) -> bool {
+        match next {
+            Some(place) => {
+                self.cursor = place;
+                true
+            }
+            None => {
+                self.miss_here();
+                false
+            }
+        }
+    }
+
+    /// Notes that the next line doesn't fit.
+    fn miss_here(&mut self) {
+        let line = self.cursor.number();
+        self.miss(line);
     }
 
     /// How many parts stand directly below a part, so far.
@@ -220,41 +262,18 @@ impl<'t> Reader<'t> {
         count
     }
 
-    /// Takes a line that is spelled by the step.
-    fn take_line(
-        &mut self,
-        at: usize,
-        step: Line,
-        known: &mut Vec<Piece<'t>>,
-    ) -> Result<bool, AllocError> {
-        let part = if at < self.entries.len() {
-            self.entries[at].part
-        } else {
-            Part::Program
-        };
-        let scope = self.scope(part);
-        if let Some(line) = self.cursor.line() {
-            if read_line(scope, step.1, known, line)? {
-                self.cursor = self.cursor.after_line();
-                return Ok(true);
-            }
-        }
-        let line = self.cursor.number();
-        self.miss(line);
-        Ok(false)
-    }
-
     /// Takes a use.
-    fn take_use(&mut self, known: &mut Vec<Piece<'t>>) -> Result<bool, AllocError> {
-        match take_use(self.cursor) {
-            Some(taken) => {
-                known.push(Piece::new(CowStr::Borrowed(taken.text)))?;
-                self.cursor = taken.next;
+    fn take_use(&mut self, growing: &mut Growing<'t>) -> Result<bool, AllocError> {
+        if !is_blank_part(growing) {
+            return Ok(false);
+        }
+        match use_step(growing, self.cursor)? {
+            Some(place) => {
+                self.cursor = place;
                 Ok(true)
             }
             None => {
-                let from = self.cursor.start().saturating_add(4);
-                let line = cut_line(self.cursor, from);
+                let line = cut_line(self.cursor, self.cursor.start().saturating_add(4));
                 self.miss(line);
                 Ok(false)
             }
@@ -262,11 +281,13 @@ impl<'t> Reader<'t> {
     }
 
     /// Takes user code.
-    fn take_code(&mut self, known: &mut Vec<Piece<'t>>) -> Result<bool, AllocError> {
-        match take_code(self.cursor) {
-            Some(taken) => {
-                known.push(Piece::new(CowStr::Borrowed(taken.text)))?;
-                self.cursor = taken.next;
+    fn take_code(&mut self, growing: &mut Growing<'t>) -> Result<bool, AllocError> {
+        if !is_blank_part(growing) {
+            return Ok(false);
+        }
+        match code_step(growing, self.cursor)? {
+            Some(place) => {
+                self.cursor = place;
                 Ok(true)
             }
             None => {
@@ -278,14 +299,15 @@ impl<'t> Reader<'t> {
     }
 
     /// Takes the entries of a table.
-    fn take_entries(&mut self, at: usize) -> Result<bool, AllocError> {
+    fn take_entries(&mut self, growing: &mut Growing<'t>) -> Result<bool, AllocError> {
+        if growing.tabled {
+            return Ok(false);
+        }
         match take_entries(self.alloc, self.cursor)? {
-            TakenTable::Whole(numbers, next) => {
-                if at < self.entries.len() {
-                    let entry = &mut self.entries[at];
-                    entry.numbers = numbers;
-                }
-                self.cursor = next;
+            TakenTable::Whole(numbers, place) => {
+                growing.numbers = numbers;
+                growing.tabled = true;
+                self.cursor = place;
                 Ok(true)
             }
             TakenTable::Broken(place) => {

@@ -11,6 +11,6 @@ returns c =
     let pushed = c.in_ok-push.ensures.items in
     record {
       same = c.in-Some.ensures.0;
-      grows = grows_text c.args.scope.prefix.now c.args.growing.now _ text (search rules) (search rules) (search rules) c.requires.kinds pushed;
+      grows = λ prefix. grows_text prefix c.args.growing.now _ text (search rules) (search rules) (search rules) c.requires.kinds pushed;
       takes = λ content m. subst (λ x. IsCode (left c.args.cursor) x (left taken.next)) (sym (first_hole c.args.growing.now.holes.items _ content text c.requires.first pushed m)) c.in-Some.ensures.1;
     }

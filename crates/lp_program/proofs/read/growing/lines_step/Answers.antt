@@ -28,6 +28,10 @@ loop-i-preserved c =
       takes = λ content m. lines_more c.loop-i._i (line_of prefix content.holes pieces) _ _ _ (i.takes content (becomes_before prefix c.loop-i.growing _ content step.grows m)) (step.takes content m);
     }
 
+-- a line isn't there: only the text stays the same
+pub returns-in_default : goal.returns-in_default
+returns-in_default c = record { same = c.loop-i.invariant.same; grows = tt; takes = tt }
+
 pub returns : goal.returns
 returns c = record {
   same = c.loop-i.invariant.same;
