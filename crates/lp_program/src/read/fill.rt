@@ -1,15 +1,13 @@
 //! What the holes of a line hold.
 
-ghost use Rattle.std.specs.Prelude.{◌≡◌, ◌<◌, ◌≤◌, ◌+◌, ◌^◌, ◌↔◌, true, length, take, drop, codes, nat_lt, nat_eq, IsTrue, IfOk, option_copied};
-ghost use Rattle.std.specs.List.{list_all, prefix_len, starts_with, ends_with};
+ghost use Rattle.std.specs.Prelude.{◌≡◌, ◌<◌, ◌≤◌, ◌+◌, ◌^◌, ◌↔◌, true, length, take, nat_lt, IsTrue, IfOk, option_copied};
+ghost use Rattle.std.specs.List.{list_all};
 ghost use Rattle.std.specs.Str.{bytes_eq};
 ghost use Rattle.std.specs.Str.Parse.{digits_value};
 ghost use Rattle.lp_program.specs.HoleEnds as ends;
 ghost use Rattle.lp_program.specs.Fillings as fillings;
 
-use crate::read::ends::{
-    digit_run, is_word, place_in, rest_from, stands_at, visibility_len, word_run,
-};
+use crate::read::ends::{digit_run, is_word, place_in, rest_from, visibility_len, word_run};
 use lp_form::Kind;
 use lp_texts::{is_identifier, is_one_line};
 use std::alloc::{AllocError, Global};

@@ -1,6 +1,6 @@
 //! Reading a line by its template.
 
-ghost use Rattle.std.specs.Prelude.{◌≡◌, ◌++◌, ◌<◌, ◌≤◌, [], length, map, get_or, option_copied, IfOk, IfSome, vec_len};
+ghost use Rattle.std.specs.Prelude.{◌≡◌, ◌++◌, [], map, option_copied, IfOk, IfSome, vec_len};
 ghost use Rattle.std.specs.Bool.{OnTrue};
 ghost use Rattle.std.specs.Str.{IsUtf8};
 ghost use Rattle.lp_form.specs.declared.template.Slot.TheVariants.{Hole};
