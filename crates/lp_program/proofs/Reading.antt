@@ -30,6 +30,9 @@ pub chosen : {A : Type 0} (b : Bool) (x y z : A) → cond b x y ≡ z → ((b �
 chosen true x y z h = inl (refl, h)
 chosen false x y z h = inr (refl, h)
 
+pub first_of_some : {A B : Type 0} (a : A) (b : B) (x : A × B) → Some (a, b) ≡ Some x → a ≡ x.0
+first_of_some a b x h = let e : (a, b) ≡ x = cc in ap (λ y. y.0) e
+
 -- texts that begin with others
 pub starts_ok : (s t : List ℕ) → starts_with eqb t s ≡ true → t ≡ s ++ drop (length s) t
 starts_ok [] t h = refl
@@ -131,7 +134,7 @@ pub new_refused : (prefix : List ℕ) (kinds : List Kind) (k n : ℕ) (parts : L
 unfolding new_at
 new_refused prefix kinds k n parts known new text e len h = λ x read f.
     let m : ℕ = hole_len prefix (kind_of kinds k) k parts known text in
-    let is : known ++ take m text ∷ [] ≡ x.0 = cc read in
+    let is : known ++ take m text ∷ [] ≡ x.0 = first_of_some (known ++ take m text ∷ []) (drop m text) x read in
     let all : AllFill prefix kinds (length known) (known ++ take m text ∷ []) = subst (λ y. AllFill prefix kinds (length known) y) (sym is) f in
     h (subst (λ i. Fills prefix (kind_of kinds k) (take i text)) (sym len) (new_fills prefix kinds k known (take m text) e all))
 
@@ -159,23 +162,23 @@ cut_wrong prefix kind text n u le h f = h (IsCharBoundary-from_take text n u le 
 pub slot_extends : (prefix : List ℕ) (kinds : List Kind) (slot : Slot) (parts : List Piece) (known : List (List ℕ)) (text : List ℕ) (x : List (List ℕ) × List ℕ) →
     slot_at prefix kinds slot parts known text ≡ Some x → (more : List (List ℕ)) × (x.0 ≡ known ++ more)
 unfolding slot_at new_at
-slot_extends prefix kinds Nothing parts known text x h = let e : known ≡ x.0 = cc in ([], sym e ∙ sym (append-nil known))
+slot_extends prefix kinds Nothing parts known text x h = let e : known ≡ x.0 = first_of_some known text x h in ([], sym e ∙ sym (append-nil known))
 slot_extends prefix kinds Prefix parts known text x h =
     let p = bind_some (after prefix text) (λ rest. Some (known, rest)) x h in
-    let e : known ≡ x.0 = cc (p.2) in
+    let e : known ≡ x.0 = first_of_some known p.0 x p.2 in
     ([], sym e ∙ sym (append-nil known))
 slot_extends prefix kinds (Hole k) parts known text x h =
     ⊎_elim
     (λ p.
     let q = bind_some (after (get_or known k []) text) (λ rest. Some (known, rest)) x p.1 in
-    let e : known ≡ x.0 = cc (q.2) in
+    let e : known ≡ x.0 = first_of_some known q.0 x q.2 in
     ([], sym e ∙ sym (append-nil known)))
     (λ p.
     ⊎_elim
     (λ q. cc (q.1))
     (λ q.
     let n : ℕ = hole_len prefix (kind_of kinds k) k parts known text in
-    let e : known ++ take n text ∷ [] ≡ x.0 = cc (q.1) in
+    let e : known ++ take n text ∷ [] ≡ x.0 = first_of_some (known ++ take n text ∷ []) (drop n text) x q.1 in
     (take n text ∷ [], sym e))
     (chosen (ltb (length known) k) None (new_at prefix kinds k parts known text) (Some x) p.1))
     (chosen (ltb k (length known)) _ _ (Some x) h)
