@@ -108,6 +108,18 @@ fn broken_texts_are_refused(rt: HostRuntime) -> Result<(), Fail> {
     Ok(())
 }
 
+#[test]
+fn prefixes_that_make_no_identifier_are_refused(rt: HostRuntime) -> Result<(), Fail> {
+    let alloc = rt.alloc();
+    for prefix in ["", "1", "a-"] {
+        let other = ROW_ONE.replace(alloc, "__", prefix)?;
+        assert_eq!(rt; refused_line(alloc, other.as_str()), 2);
+    }
+    let other = ROW_ONE.replace(alloc, "__", "___")?;
+    assert_eq!(rt; refused_line(alloc, other.as_str()), 0);
+    Ok(())
+}
+
 /// The text with blanks moved, and with empty lines and comments between its lines; user code stays.
 fn disturbed(alloc: Global, text: &str) -> Result<String, Fail> {
     let mut other = String::new(alloc);

@@ -6,6 +6,7 @@ use crate::read::cursor::Cursor;
 use crate::read::line::{Scope, read_line};
 use crate::read::rows::{Table, read_entries};
 use lp_form::{Class, Line, Part, Step, holes, members, steps};
+use lp_texts::is_identifier;
 use lp_tok::code_end;
 use lp_tree::piece::Piece;
 use lp_tree::tree::{Entry, Program};
@@ -66,26 +67,41 @@ pub fn read_program<'t>(alloc: Global, text: &'t str) -> Result<Program<'t>, Rea
     Err(ReadFault::NoForm { line: reader.worst })
 }
 
-/// The prefix that the standard uses show; the empty text where they show none.
+/// What stands for a prefix that isn't shown: no line has it, so that each line that wants the prefix
+/// fails.
+const NO_PREFIX: &str = "\n";
+
+/// The prefix of a name of the standard uses, with what follows it on the line: it isn't empty, and
+/// what it makes of `lalrpop_util` is an identifier.
+fn prefix_in(shown: &str) -> Option<&str> {
+    let name = shown.strip_suffix(";")?;
+    let prefix = name.strip_suffix("lalrpop_util")?;
+    if prefix.is_empty() || !is_identifier(name) {
+        return None;
+    }
+    Some(prefix)
+}
+
+/// The prefix that the standard uses show.
 fn prefix_of(text: &str) -> &str {
     let mut cursor = Cursor::new(text);
     for _ in 0..text.len() {
         let Some(line) = cursor.line() else {
-            return "";
+            return NO_PREFIX;
         };
         if line.starts_with("use ") {
             match use_end(cursor) {
                 Some((_, next)) => cursor = cursor.at(next),
-                None => return "",
+                None => return NO_PREFIX,
             }
         } else {
-            if let Some(name) = line.strip_prefix("extern crate lalrpop_util as ") {
-                return name.strip_suffix("lalrpop_util;").unwrap_or("");
+            if let Some(shown) = line.strip_prefix("extern crate lalrpop_util as ") {
+                return prefix_in(shown).unwrap_or(NO_PREFIX);
             }
             cursor = cursor.after_line();
         }
     }
-    ""
+    NO_PREFIX
 }
 
 /// The text of the use in the next line, and the place after its `;`.
