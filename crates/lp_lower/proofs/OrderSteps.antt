@@ -5,8 +5,8 @@ use Rattle.std.proofs.lemmas.List.{drop_more}
 use Rattle.lp_lower.specs.Places.{least, least_of}
 use Rattle.lp_lower.specs.Refusals.{below_among, order_places}
 use Rattle.lp_lower.specs.Symbols.{symbols_in}
-use Rattle.lp_lower.specs.declared.plain.PlainGrammar.{PlainGrammar}
-use Rattle.lp_lower.specs.declared.plain.PlainRule.{PlainRule}
+use Rattle.lp_syntax.specs.declared.plain.PlainGrammar.{PlainGrammar}
+use Rattle.lp_syntax.specs.declared.plain.PlainRule.{PlainRule}
 use Rattle.lp_lower.proofs.Leasts.{least_before_if}
 
 pub order_step : (g : PlainGrammar) (rules : List PlainRule) (i : ℕ) (r : PlainRule) → i < length rules → get_or rules i r ≡ r → (b : Bool) → r.inline ≡ b → (found new whole : Option ℕ) → new ≡ cond b (least found (least_of (below_among g i (symbols_in r)))) found → least found (least_of (order_places g i (drop i rules))) ≡ whole → least new (least_of (order_places g (i + 1) (drop (i + 1) rules))) ≡ whole

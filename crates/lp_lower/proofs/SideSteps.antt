@@ -8,9 +8,9 @@ use Rattle.lp_lower.specs.Choices.{choices}
 use Rattle.lp_lower.specs.Extents.{joined}
 use Rattle.lp_lower.specs.Naming.{target}
 use Rattle.lp_lower.specs.RightSides.{side_options, sides_from, rule_sides, sides_after, sides_with_start, are_too_many, too_many_after}
-use Rattle.lp_lower.specs.declared.plain.PlainGrammar.{PlainGrammar}
-use Rattle.lp_lower.specs.declared.plain.PlainRule.{PlainRule}
-use Rattle.lp_lower.specs.declared.plain.PlainSymbol.{PlainSymbol}
+use Rattle.lp_syntax.specs.declared.plain.PlainGrammar.{PlainGrammar}
+use Rattle.lp_syntax.specs.declared.plain.PlainRule.{PlainRule}
+use Rattle.lp_syntax.specs.declared.plain.PlainSymbol.{PlainSymbol}
 
 abbrev flat : List (List Symbol) → List Symbol
 flat sides = flat_map (λ side. side) sides

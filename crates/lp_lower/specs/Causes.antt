@@ -4,7 +4,7 @@ use Rattle.lp_lower.specs.Refusals.{unknown_name, inline_order, duplicate}
 use Rattle.lp_lower.specs.RightSides.{too_many}
 use Rattle.lp_lower.specs.declared.lowering.LowerFault.{LowerFault}
 use Rattle.lp_lower.specs.declared.lowering.LowerFault.TheVariants as fault
-use Rattle.lp_lower.specs.declared.plain.PlainGrammar.{PlainGrammar}
+use Rattle.lp_syntax.specs.declared.plain.PlainGrammar.{PlainGrammar}
 
 -- every symbol is a rule or a terminal
 abbrev pub IsNamed : PlainGrammar → Type 0

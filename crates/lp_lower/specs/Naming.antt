@@ -9,11 +9,11 @@ use Rattle.lp_repr.specs.declared.repr.TerminalString.{TerminalString}
 use Rattle.lp_repr.specs.declared.repr.TerminalString.TheVariants as terminal_string
 use Rattle.lp_lower.specs.declared.names.Target.{Target}
 use Rattle.lp_lower.specs.declared.names.Target.TheVariants as target_of
-use Rattle.lp_lower.specs.declared.plain.PlainGrammar.{PlainGrammar}
-use Rattle.lp_lower.specs.declared.plain.PlainKind.{PlainKind}
-use Rattle.lp_lower.specs.declared.plain.PlainKind.TheVariants as kind
-use Rattle.lp_lower.specs.declared.plain.PlainRule.{PlainRule}
-use Rattle.lp_lower.specs.declared.plain.PlainTerminal.{PlainTerminal}
+use Rattle.lp_syntax.specs.declared.plain.PlainGrammar.{PlainGrammar}
+use Rattle.lp_syntax.specs.declared.plain.PlainKind.{PlainKind}
+use Rattle.lp_syntax.specs.declared.plain.PlainKind.TheVariants as kind
+use Rattle.lp_syntax.specs.declared.plain.PlainRule.{PlainRule}
+use Rattle.lp_syntax.specs.declared.plain.PlainTerminal.{PlainTerminal}
 
 -- the order by which a map keeps texts
 abbrev pub text_cmp : List ℕ → List ℕ → Ordering

@@ -9,10 +9,10 @@ use Rattle.lp_lower.specs.Repeats.{repeats}
 use Rattle.lp_lower.specs.Symbols.{symbols_in, symbols_of}
 use Rattle.lp_lower.specs.declared.names.Target.{Target}
 use Rattle.lp_lower.specs.declared.names.Target.TheVariants as target_of
-use Rattle.lp_lower.specs.declared.plain.PlainGrammar.{PlainGrammar}
-use Rattle.lp_lower.specs.declared.plain.PlainRule.{PlainRule}
-use Rattle.lp_lower.specs.declared.plain.PlainSymbol.{PlainSymbol}
-use Rattle.lp_lower.specs.declared.plain.PlainTerminal.{PlainTerminal}
+use Rattle.lp_syntax.specs.declared.plain.PlainGrammar.{PlainGrammar}
+use Rattle.lp_syntax.specs.declared.plain.PlainRule.{PlainRule}
+use Rattle.lp_syntax.specs.declared.plain.PlainSymbol.{PlainSymbol}
+use Rattle.lp_syntax.specs.declared.plain.PlainTerminal.{PlainTerminal}
 
 -- the places of those of these symbols whose name is neither a rule's nor a terminal's
 abbrev pub unknown_among : PlainGrammar → List PlainSymbol → List ℕ

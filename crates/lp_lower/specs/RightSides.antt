@@ -9,10 +9,10 @@ use Rattle.lp_lower.specs.Choices.{choices}
 use Rattle.lp_lower.specs.Naming.{target}
 use Rattle.lp_lower.specs.declared.names.Target.{Target}
 use Rattle.lp_lower.specs.declared.names.Target.TheVariants as target_of
-use Rattle.lp_lower.specs.declared.plain.PlainAlternative.{PlainAlternative}
-use Rattle.lp_lower.specs.declared.plain.PlainGrammar.{PlainGrammar}
-use Rattle.lp_lower.specs.declared.plain.PlainRule.{PlainRule}
-use Rattle.lp_lower.specs.declared.plain.PlainSymbol.{PlainSymbol}
+use Rattle.lp_syntax.specs.declared.plain.PlainAlternative.{PlainAlternative}
+use Rattle.lp_syntax.specs.declared.plain.PlainGrammar.{PlainGrammar}
+use Rattle.lp_syntax.specs.declared.plain.PlainRule.{PlainRule}
+use Rattle.lp_syntax.specs.declared.plain.PlainSymbol.{PlainSymbol}
 
 -- what may stand in the place of a rule: the rule itself, or one of its right sides where it is inline
 abbrev pub rule_options : PlainRule → List (List Symbol) → List (List Symbol)

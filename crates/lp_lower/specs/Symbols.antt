@@ -1,9 +1,9 @@
 -- The symbols of a plain grammar.
 use Rattle.std.specs.Prelude.{List}
 use Rattle.std.specs.List.{flat_map}
-use Rattle.lp_lower.specs.declared.plain.PlainGrammar.{PlainGrammar}
-use Rattle.lp_lower.specs.declared.plain.PlainRule.{PlainRule}
-use Rattle.lp_lower.specs.declared.plain.PlainSymbol.{PlainSymbol}
+use Rattle.lp_syntax.specs.declared.plain.PlainGrammar.{PlainGrammar}
+use Rattle.lp_syntax.specs.declared.plain.PlainRule.{PlainRule}
+use Rattle.lp_syntax.specs.declared.plain.PlainSymbol.{PlainSymbol}
 
 -- of a rule
 abbrev pub symbols_in : PlainRule → List PlainSymbol

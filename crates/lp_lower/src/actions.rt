@@ -6,10 +6,10 @@ use crate::extents::Extent;
 use crate::frame::{Frame, sum};
 use crate::lists::{empty, push};
 use crate::names::Names;
-use crate::plain::{PlainAlternative, PlainGrammar, PlainRule};
 use crate::types::{location_type, prefixed, target_type};
 use lp_repr::repr::{ActionFnDefn, ActionFnDefnKind, LookaroundActionFn, TypeRepr};
 use lp_repr::text::{Items, Text};
+use lp_syntax::{PlainAlternative, PlainGrammar, PlainRule};
 use std::alloc::{AllocError, Global};
 
 /// The actions: per public rule its start's, then lookahead and lookbehind where they are used,

@@ -5,10 +5,10 @@ use crate::extents::{Extent, alternative_extent};
 use crate::frame::{Frame, sum};
 use crate::lists::{empty, push};
 use crate::names::{Names, Target};
-use crate::plain::{PlainAlternative, PlainKind, PlainRule};
 use crate::refusals::is_inline;
 use lp_repr::repr::{Symbol, TerminalString};
 use lp_repr::text::Items;
+use lp_syntax::{PlainAlternative, PlainKind, PlainRule};
 use std::alloc::{AllocError, Global};
 
 /// What `@L`, `@R` and inline rules are replaced by.

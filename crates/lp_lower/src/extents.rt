@@ -8,7 +8,7 @@ ghost use Rattle.lp_lower.specs.Extents.{extent_of, joined};
 ghost use Rattle.lp_lower.specs.RightSides.{rule_options, terminal_options, side_options, right_sides, rule_sides, inline_sides, sides_with_start, are_too_many, too_many};
 
 use crate::names::{Names, Target};
-use crate::plain::{PlainAlternative, PlainRule};
+use lp_syntax::{PlainAlternative, PlainRule};
 use std::alloc::{AllocError, Global};
 
 /// The most alternatives of all expanded rules together.

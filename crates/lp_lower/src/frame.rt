@@ -1,7 +1,7 @@
 //! Which symbols of their own kind are used, and where the actions begin.
 
-use crate::plain::{PlainGrammar, PlainKind, PlainRule, PlainSymbol};
 use crate::symbols::all_symbols;
+use lp_syntax::{PlainGrammar, PlainKind, PlainRule, PlainSymbol};
 use std::alloc::{AllocError, Global};
 
 /// Which symbols of their own kind are used, the numbers of the lookarounds' actions, and the

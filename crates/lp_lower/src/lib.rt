@@ -9,7 +9,6 @@ mod frame;
 mod lists;
 mod lowering;
 mod names;
-mod plain;
 mod productions;
 mod refusals;
 mod symbols;
@@ -17,4 +16,6 @@ mod tables;
 mod types;
 
 pub use lowering::{LowerFault, lower};
-pub use plain::{PlainAlternative, PlainGrammar, PlainKind, PlainRule, PlainSymbol, PlainTerminal};
+pub use lp_syntax::{
+    PlainAlternative, PlainGrammar, PlainKind, PlainRule, PlainSymbol, PlainTerminal,
+};

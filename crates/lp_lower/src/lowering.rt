@@ -10,7 +10,6 @@ use crate::expand::{Sources, make_sources};
 use crate::extents::{Extent, inline_extents, too_many};
 use crate::frame::{Frame, make_frame};
 use crate::names::Names;
-use crate::plain::PlainGrammar;
 use crate::productions::nonterminals;
 use crate::refusals::{duplicate, inline_order, unknown_name};
 use crate::symbols::all_symbols;
@@ -18,6 +17,7 @@ use crate::tables::{nonterminal_types, patterns, public_names, terminal_names, t
 use crate::types::given;
 use lp_repr::repr::{Grammar, Parameter, TerminalSet, Types, WhereClause};
 use lp_repr::text::Items;
+use lp_syntax::PlainGrammar;
 use std::alloc::{AllocError, Global};
 
 /// Why a plain grammar isn't lowered. Places are bytes of its file.

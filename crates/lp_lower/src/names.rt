@@ -6,9 +6,9 @@ ghost use Rattle.lp_repr.specs.declared.repr.TerminalString.{TerminalString};
 ghost use Rattle.lp_repr.specs.declared.repr.TerminalString.TheVariants as terminal_string;
 ghost use Rattle.lp_lower.specs.Naming.{text_cmp, rule_number, terminal_number, target};
 
-use crate::plain::{PlainGrammar, PlainKind, PlainRule, PlainTerminal};
 use lp_repr::repr::TerminalString;
 use lp_repr::text::Text;
+use lp_syntax::{PlainGrammar, PlainKind, PlainRule, PlainTerminal};
 use std::alloc::{AllocError, Global};
 use std::collections::BTreeMap;
 

@@ -6,11 +6,11 @@ use crate::extents::Extent;
 use crate::frame::{Frame, after, sum};
 use crate::lists::{empty, push};
 use crate::names::Names;
-use crate::plain::{PlainGrammar, PlainRule};
 use crate::types::prefixed;
 use lp_repr::parse_tree::Visibility;
 use lp_repr::repr::{NonterminalData, NonterminalString, Production, Symbol};
 use lp_repr::text::Items;
+use lp_syntax::{PlainGrammar, PlainRule};
 use std::alloc::{AllocError, Global};
 use std::collections::BTreeMap;
 

@@ -10,10 +10,10 @@ ghost use Rattle.lp_lower.specs.Repeats.{repeats};
 ghost use Rattle.lp_lower.specs.Refusals.{unknown_among, is_inline, is_inline_from, below_among, inline_order, same_rule, same_name, same_pattern, duplicate};
 
 use crate::names::{Names, Target};
-use crate::plain::{PlainGrammar, PlainKind, PlainRule, PlainSymbol, PlainTerminal};
 use crate::symbols::rule_symbols;
 use lp_repr::repr::TerminalString;
 use lp_repr::text::Text;
+use lp_syntax::{PlainGrammar, PlainKind, PlainRule, PlainSymbol, PlainTerminal};
 use std::alloc::{AllocError, Global};
 use std::collections::BTreeSet;
 

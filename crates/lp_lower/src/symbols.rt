@@ -5,7 +5,7 @@ ghost use Rattle.std.specs.List.{flat_map};
 ghost use Rattle.std.specs.Map.Iter.{deref};
 ghost use Rattle.lp_lower.specs.Symbols.{symbols_in, symbols_of};
 
-use crate::plain::{PlainAlternative, PlainGrammar, PlainRule, PlainSymbol};
+use lp_syntax::{PlainAlternative, PlainGrammar, PlainRule, PlainSymbol};
 use std::alloc::{AllocError, Global};
 
 /// The symbols of all alternatives, in order.

@@ -1,11 +1,11 @@
 //! What the lowered grammar knows by name: public names, terminals with their patterns, and types.
 
 use crate::lists::{empty, push};
-use crate::plain::{PlainGrammar, PlainRule, PlainTerminal};
 use crate::productions::start_name;
 use crate::types::{holes_type, recovery_type};
 use lp_repr::repr::{NonterminalString, TerminalString, TokenPattern, TypeRepr};
 use lp_repr::text::Items;
+use lp_syntax::{PlainGrammar, PlainRule, PlainTerminal};
 use std::alloc::{AllocError, Global};
 use std::collections::BTreeMap;
 

@@ -1,10 +1,10 @@
 //! The types of symbols.
 
 use crate::names::{Names, Target};
-use crate::plain::PlainGrammar;
 use lp_repr::parse_tree::Path;
 use lp_repr::repr::{NominalTypeRepr, TypeRepr};
 use lp_repr::text::{Items, Text};
+use lp_syntax::PlainGrammar;
 use std::alloc::{AllocError, Global};
 
 /// A path that isn't absolute, with these arguments.

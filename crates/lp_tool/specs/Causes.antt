@@ -1,13 +1,10 @@
 -- What each status of the tool tells of its words, its source and its sink.
 use Rattle.std.specs.Prelude.{◌≡◌, ◌≢◌, ℕ, ◌<◌, List, length, Option, Some, None}
+use Rattle.lp_plain.specs.Front.{IsTooLong}
 use Rattle.lp_write.specs.Sinks.{Told, Took, Broke, Rose}
 use Rattle.lp_tool.specs.Command.{command_of}
 use Rattle.lp_tool.specs.declared.status.Status.{Status}
 use Rattle.lp_tool.specs.declared.status.Status.TheVariants.{Done, Usage, TooLong, ReadFault, WriteFault}
-
--- more bytes were left than are read, where the source tells them
-abbrev pub IsTooLong : Option (List ℕ) → Type 0
-IsTooLong left = (bytes : List ℕ) → left ≡ Some bytes → 16777216 < length bytes
 
 -- what a status tells of the words and of the source, by the bytes that were left and the counts of
 -- faults before and after

@@ -1,3 +1,4 @@
 pub mod Causes
 pub mod Command
 pub mod Status
+pub mod Told

@@ -1,15 +1,13 @@
 //! From the bytes of a grammar file to its grammar and states.
 
-ghost use Rattle.std.specs.Prelude.{◌≡◌, IfErr};
+ghost use Rattle.std.specs.Prelude.{◌≡◌, [], None, Some, IfOk, IfErr};
 ghost use Rattle.lp_tool.specs.Causes.{IsOfFile};
+ghost use Rattle.lp_tool.specs.Told.{AreTablesOrNone, Holds, IsFile, Tells, ToldOf};
 
 use crate::status::Status;
-use lp_plain::{
-    BuildFault, BytesFault, LowerFault, PlainGrammar, build_states, cut_file, lower, plain_of,
-};
+use lp_plain::{BytesFault, PlainGrammar, TablesFault, cut_file, lowered_of, tables_of};
+use lp_repr::StartStates;
 use lp_repr::repr::Grammar;
-use lp_repr::{Items, Lr1State, StartStates};
-use lp_valid::{GrammarFault, check_grammar};
 use std::alloc::Global;
 
 /// A grammar file that was read.
@@ -36,6 +34,7 @@ impl Stop {
     /// An answer before a grammar is there.
     pub fn bare(status: Status) -> Stop
         ensures { result.status ≡ status }
+        ensures grammar { result.grammar ≡ None }
     {
         Stop {
             status,
@@ -46,6 +45,7 @@ impl Stop {
     /// An answer with the plain grammar that was lowered.
     pub fn with(status: Status, grammar: PlainGrammar) -> Stop
         ensures { result.status ≡ status }
+        ensures grammar { Holds grammar status result.grammar }
     {
         match status {
             Status::Memory => Stop::bare(status),
@@ -59,12 +59,14 @@ impl Stop {
 
 /// The grammar file that the bytes are.
 pub fn file_of(alloc: Global, bytes: &[u8]) -> Result<File, Stop>
-    ensures { IfErr result (λ stop. IsOfFile stop.status) }
+    ensures file { IfOk result IsFile }
+    ensures stops { IfErr result (λ stop. IsOfFile stop.status) }
+    ensures told { IfErr result (λ stop. Tells stop.grammar [] stop.status) }
 {
     let (text, tail) = cut_file(bytes);
-    let (plain, lowered) = match grammar_of(alloc, text) {
+    let (plain, lowered) = match lowered_of(alloc, text) {
         Ok(both) => both,
-        Err(status) => return Err(Stop::bare(status)),
+        Err(fault) => return Err(unread(fault)),
     };
     match tables_and_tail(alloc, &lowered, tail) {
         Ok((tables, tail)) => Ok(File {
@@ -77,30 +79,14 @@ pub fn file_of(alloc: Global, bytes: &[u8]) -> Result<File, Stop>
     }
 }
 
-fn grammar_of(alloc: Global, text: &[u8]) -> Result<(PlainGrammar, Grammar), Status>
-    ensures { IfErr result IsOfFile }
-{
-    let plain = match plain_of(alloc, text) {
-        Ok(plain) => plain,
-        Err(BytesFault::Grammar { place }) => return Err(Status::Grammar { place }),
-        Err(BytesFault::Memory) => return Err(Status::Memory),
-    };
-    match lower(alloc, &plain) {
-        Ok(lowered) => Ok((plain, lowered)),
-        Err(fault) => Err(unlowered(fault)),
-    }
-}
-
-/// The status that tells of a grammar that isn't lowered.
-fn unlowered(fault: LowerFault) -> Status
-    ensures { IsOfFile result }
+/// The answer on bytes that spell no plain grammar, or one whose lowering is refused.
+fn unread(fault: BytesFault) -> Stop
+    ensures stops { IsOfFile result.status }
+    ensures told { Tells result.grammar [] result.status }
 {
     match fault {
-        LowerFault::UnknownName { place }
-        | LowerFault::InlineOrder { place }
-        | LowerFault::Duplicate { place }
-        | LowerFault::TooManyProductions { place } => Status::Grammar { place },
-        LowerFault::Memory => Status::Memory,
+        BytesFault::Grammar { place } => Stop::bare(Status::Grammar { place }),
+        BytesFault::Memory => Stop::bare(Status::Memory),
     }
 }
 
@@ -109,9 +95,11 @@ fn tables_and_tail(
     grammar: &Grammar,
     tail: &[u8],
 ) -> Result<(Vec<StartStates>, Vec<u8>), Status>
-    ensures { IfErr result IsOfFile }
+    ensures tables { IfOk result (λ both. AreTablesOrNone grammar.now both.0.items) }
+    ensures stops { IfErr result IsOfFile }
+    ensures told { IfErr result (ToldOf grammar.now) }
 {
-    let tables = tables(alloc, grammar)?;
+    let tables = tables_or_none(alloc, grammar)?;
     match Vec::from_slice(alloc, tail) {
         Ok(tail) => Ok((tables, tail)),
         Err(_) => Err(Status::Memory),
@@ -119,44 +107,20 @@ fn tables_and_tail(
 }
 
 /// The states of each start, in key order; none where the grammar isn't valid.
-fn tables(alloc: Global, grammar: &Grammar) -> Result<Vec<StartStates>, Status>
-    ensures { IfErr result IsOfFile }
+fn tables_or_none(alloc: Global, grammar: &Grammar) -> Result<Vec<StartStates>, Status>
+    ensures tables { IfOk result (λ v. AreTablesOrNone grammar.now v.items) }
+    ensures stops { IfErr result IsOfFile }
+    ensures told { IfErr result (ToldOf grammar.now) }
 {
-    match check_grammar(alloc, grammar) {
-        Ok(()) => states_of_starts(alloc, grammar),
-        Err(GrammarFault::Rule { .. }) => Ok(Vec::new(alloc)),
-        Err(GrammarFault::Memory) => Err(Status::Memory),
-    }
-}
-
-fn states_of_starts(alloc: Global, grammar: &Grammar) -> Result<Vec<StartStates>, Status>
-    ensures { IfErr result IsOfFile }
-{
-    let mut tables = Vec::new(alloc);
-    for (start, name) in grammar.start_nonterminals.keys().enumerate() {
-        let states = states_of(alloc, grammar, start)?;
-        let Ok(start) = name.clone() else {
-            return Err(Status::Memory);
-        };
-        let table = StartStates {
-            start,
-            states: Items(states),
-        };
-        if tables.push(table).is_err() {
-            return Err(Status::Memory);
+    match tables_of(alloc, grammar) {
+        Ok(tables) => Ok(tables),
+        Err(TablesFault::BadGrammar { .. }) => Ok(Vec::new(alloc)),
+        Err(TablesFault::Conflict { start, path, token }) => {
+            Err(Status::Conflict { start, path, token })
         }
-    }
-    Ok(tables)
-}
-
-/// The states of one start.
-fn states_of(alloc: Global, grammar: &Grammar, start: usize) -> Result<Vec<Lr1State>, Status>
-    ensures { IfErr result IsOfFile }
-{
-    match build_states(alloc, grammar, start) {
-        Ok(states) => Ok(states),
-        Err(BuildFault::Conflict { path, token }) => Err(Status::Conflict { start, path, token }),
-        Err(BuildFault::TooManyStates { paths }) => Err(Status::TooManyStates { start, paths }),
-        Err(BuildFault::Memory) => Err(Status::Memory),
+        Err(TablesFault::TooManyStates { start, paths }) => {
+            Err(Status::TooManyStates { start, paths })
+        }
+        Err(TablesFault::Memory) => Err(Status::Memory),
     }
 }

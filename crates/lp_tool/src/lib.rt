@@ -4,7 +4,6 @@
 mod command;
 mod file;
 mod generated;
-mod input;
 mod status;
 mod text_run;
 mod tool;

@@ -4,7 +4,7 @@ use Rattle.std.proofs.lemmas.List.{drop_all, drop_more}
 use Rattle.lp_lower.specs.Extents.{extent_of, joined}
 use Rattle.lp_lower.specs.Naming.{target}
 use Rattle.lp_lower.specs.RightSides.{side_options, sides_from}
-use Rattle.lp_lower.specs.declared.plain.PlainSymbol.{PlainSymbol}
+use Rattle.lp_syntax.specs.declared.plain.PlainSymbol.{PlainSymbol}
 use Rattle.lp_lower.proofs.SideSteps.{sides_from-nil, sides_from-cons}
 use Rattle.lp_lower.proofs.extents.alternative_extent.Goals as goal
 

@@ -3,7 +3,7 @@ use Rattle.std.proofs.Math.ListN.{get_or, get_or-map}
 use Rattle.std.specs.Option.{option_map_or}
 use Rattle.lp_lower.specs.Extents.{extent_of}
 use Rattle.lp_lower.specs.RightSides.{rule_options}
-use Rattle.lp_lower.specs.declared.plain.PlainRule.{PlainRule}
+use Rattle.lp_syntax.specs.declared.plain.PlainRule.{PlainRule}
 use Rattle.lp_lower.proofs.extents.rule_option_extent.Goals as goal
 
 pub returns-in-Some : goal.returns-in-Some

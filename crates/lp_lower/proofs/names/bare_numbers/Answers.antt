@@ -5,7 +5,7 @@ use Rattle.lp_repr.specs.Names.{same_text, same_terminal}
 use Rattle.lp_repr.specs.declared.repr.TerminalString.TheVariants.{Bare}
 use Rattle.lp_lower.specs.Naming.{text_cmp}
 use Rattle.lp_lower.proofs.FirstNumbers.{place_before}
-use Rattle.lp_lower.specs.declared.plain.PlainTerminal.{PlainTerminal}
+use Rattle.lp_syntax.specs.declared.plain.PlainTerminal.{PlainTerminal}
 use Rattle.lp_lower.proofs.names.bare_numbers.Goals as goal
 
 pub loop-number-preserved-in_ok-insert : goal.loop-number-preserved-in_ok-insert

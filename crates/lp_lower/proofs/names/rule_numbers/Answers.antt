@@ -4,7 +4,7 @@ use Rattle.std.specs.Cmp.Lexicographic.{texts_ties}
 use Rattle.lp_repr.specs.Names.{same_text}
 use Rattle.lp_lower.specs.Naming.{text_cmp}
 use Rattle.lp_lower.proofs.FirstNumbers.{place_before}
-use Rattle.lp_lower.specs.declared.plain.PlainRule.{PlainRule}
+use Rattle.lp_syntax.specs.declared.plain.PlainRule.{PlainRule}
 use Rattle.lp_lower.proofs.names.rule_numbers.Goals as goal
 
 pub loop-number-preserved : goal.loop-number-preserved

@@ -1,8 +1,8 @@
 use Rattle.std.proofs.Common.{map, ◌++◌}
 use Rattle.lp_lower.specs.Repeats.{repeats}
 use Rattle.lp_lower.specs.Refusals.{same_rule, same_name, same_pattern}
-use Rattle.lp_lower.specs.declared.plain.PlainRule.{PlainRule}
-use Rattle.lp_lower.specs.declared.plain.PlainTerminal.{PlainTerminal}
+use Rattle.lp_syntax.specs.declared.plain.PlainRule.{PlainRule}
+use Rattle.lp_syntax.specs.declared.plain.PlainTerminal.{PlainTerminal}
 use Rattle.lp_lower.proofs.Leasts.{least_of-append}
 use Rattle.lp_lower.proofs.refusals.duplicate.Goals as goal
 

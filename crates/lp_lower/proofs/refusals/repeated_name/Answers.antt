@@ -5,7 +5,7 @@ use Rattle.lp_repr.proofs.Numbers.{terminal_ties}
 use Rattle.lp_lower.specs.Places.{least_of}
 use Rattle.lp_lower.specs.Repeats.{repeats}
 use Rattle.lp_lower.specs.Refusals.{same_name}
-use Rattle.lp_lower.specs.declared.plain.PlainTerminal.{PlainTerminal}
+use Rattle.lp_syntax.specs.declared.plain.PlainTerminal.{PlainTerminal}
 use Rattle.lp_lower.proofs.RepeatSteps.{keys_alike, told}
 use Rattle.lp_lower.proofs.refusals.repeated_name.Goals as goal
 

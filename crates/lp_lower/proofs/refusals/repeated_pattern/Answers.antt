@@ -6,7 +6,7 @@ use Rattle.lp_lower.specs.Naming.{text_cmp}
 use Rattle.lp_lower.specs.Places.{least_of}
 use Rattle.lp_lower.specs.Repeats.{repeats}
 use Rattle.lp_lower.specs.Refusals.{same_pattern}
-use Rattle.lp_lower.specs.declared.plain.PlainTerminal.{PlainTerminal}
+use Rattle.lp_syntax.specs.declared.plain.PlainTerminal.{PlainTerminal}
 use Rattle.lp_lower.proofs.RepeatSteps.{keys_alike, told}
 use Rattle.lp_lower.proofs.refusals.repeated_pattern.Goals as goal
 

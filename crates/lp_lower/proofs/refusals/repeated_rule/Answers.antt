@@ -5,7 +5,7 @@ use Rattle.lp_lower.specs.Naming.{text_cmp}
 use Rattle.lp_lower.specs.Places.{least_of}
 use Rattle.lp_lower.specs.Repeats.{repeats}
 use Rattle.lp_lower.specs.Refusals.{same_rule}
-use Rattle.lp_lower.specs.declared.plain.PlainRule.{PlainRule}
+use Rattle.lp_syntax.specs.declared.plain.PlainRule.{PlainRule}
 use Rattle.lp_lower.proofs.RepeatSteps.{keys_alike, told}
 use Rattle.lp_lower.proofs.refusals.repeated_rule.Goals as goal
 

@@ -20,7 +20,7 @@ pub enum ReadError {
 }
 
 impl From<Failed> for ReadError {
-    ghost use Rattle.lp_tool.specs.declared.input.ReadError.TheVariants.{Fault};
+    ghost use Rattle.lp_plain.specs.declared.input.ReadError.TheVariants.{Fault};
 
     ghost from_gives = { λ _ e. e ≡ Fault };
 
@@ -30,7 +30,7 @@ impl From<Failed> for ReadError {
 }
 
 impl From<AllocError> for ReadError {
-    ghost use Rattle.lp_tool.specs.declared.input.ReadError.TheVariants.{Memory};
+    ghost use Rattle.lp_plain.specs.declared.input.ReadError.TheVariants.{Memory};
 
     ghost from_gives = { λ _ e. e ≡ Memory };
 

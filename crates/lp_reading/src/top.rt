@@ -5,9 +5,9 @@ ghost use Rattle.std.specs.Prelude.{◌+◌, ◌^◌, ◌<◌, length};
 use crate::error::PlainError;
 use crate::reader::{MOST_DEPTH, Read, Reader};
 use crate::tokens::Tokens;
-use lp_lower::PlainGrammar;
 use lp_repr::repr::{TokenPattern, TypeRepr, WhereClause};
 use lp_repr::text::Text;
+use lp_syntax::PlainGrammar;
 use lp_tok::Tok;
 use std::alloc::{AllocError, Global};
 

@@ -2,9 +2,9 @@
 
 use crate::error::{ParseError, PlainError};
 use crate::reader::{MOST_DEPTH, Read, Reader};
-use lp_lower::{PlainAlternative, PlainKind, PlainRule, PlainSymbol};
 use lp_repr::repr::NonterminalString;
 use lp_repr::text::{Items, Text};
+use lp_syntax::{PlainAlternative, PlainKind, PlainRule, PlainSymbol};
 use lp_tok::{EscapeError, Tok, apply_string_escapes};
 
 /// How a rule stands.

@@ -2,13 +2,13 @@
 
 use crate::read_rule::How;
 use crate::reader::{MOST_DEPTH, Read, Reader};
-use lp_lower::{PlainGrammar, PlainRule, PlainTerminal};
 use lp_repr::consts::{ERROR, INLINE, LOCATION, RECURSIVE_ASCENT, TABLE_DRIVEN};
 use lp_repr::parse_tree::TypeParameter;
 use lp_repr::repr::{
     Algorithm, LrCodeGeneration, Parameter, TerminalString, TypeRepr, WhereClause,
 };
 use lp_repr::text::{Items, Text};
+use lp_syntax::{PlainGrammar, PlainRule, PlainTerminal};
 use lp_tok::Tok;
 
 /// What stands before the rules.

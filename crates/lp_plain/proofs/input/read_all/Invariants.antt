@@ -1,6 +1,6 @@
 use Rattle.std.proofs.Common.{◌≡◌, ◌-◌, ◌≤◌, vec_len}
 use Rattle.lp_write.specs.Sinks.{preceded}
-use Rattle.lp_tool.proofs.input.read_all.Given as goal
+use Rattle.lp_plain.proofs.input.read_all.Given as goal
 
 -- what was left is what was taken and what is left now
 abbrev pub invariant-loop-chunk : goal.invariant-loop-chunk

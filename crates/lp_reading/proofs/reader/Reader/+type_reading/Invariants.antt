@@ -1,6 +1,6 @@
 -- how deep a type may nest, and how far its parts are from the next type
 use Rattle.std.proofs.Common.{◌+◌, ◌*◌}
-use Rattle.lp_plain.proofs.reader.Reader.+type_reading.Given as goal
+use Rattle.lp_reading.proofs.reader.Reader.+type_reading.Given as goal
 
 abbrev pub decreases-ty : goal.decreases-ty
 decreases-ty l = 4 * l.depth

@@ -2,7 +2,7 @@
 
 use crate::error::{PlainError, place_of};
 use crate::top::parse_grammar;
-use lp_lower::PlainGrammar;
+use lp_syntax::PlainGrammar;
 use std::alloc::Global;
 use std::str;
 

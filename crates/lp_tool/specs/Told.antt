@@ -1,0 +1,72 @@
+-- What the status of a call tells of the grammar of its file.
+use Rattle.std.specs.Prelude.{◌≡◌, ◌⊎◌, ℕ, List, [], Option, Some, None}
+use Rattle.lp_emit.specs.Causes.{MayBeEmitted, Refuses}
+use Rattle.lp_emit.specs.declared.errors.EmitError.{EmitError}
+use Rattle.lp_emit.specs.declared.errors.EmitError.TheVariants as emit
+use Rattle.lp_plain.specs.Front.{LowersTo}
+use Rattle.lp_repr.specs.declared.lr1.StartStates.{StartStates}
+use Rattle.lp_repr.specs.declared.repr.Grammar.{Grammar}
+use Rattle.lp_starts.specs.Tables.{AreTablesOf, HasNoTables}
+use Rattle.lp_starts.specs.declared.tables.TablesFault.TheVariants as none
+use Rattle.lp_syntax.specs.declared.plain.PlainGrammar.{PlainGrammar}
+use Rattle.lp_valid.specs.Refusals.{RefusesGrammar}
+use Rattle.lp_valid.specs.declared.grammars.GrammarFault.TheVariants.{Rule}
+use Rattle.lp_tool.specs.declared.file.File.{File}
+use Rattle.lp_tool.specs.declared.status.Status.{Status}
+use Rattle.lp_tool.specs.declared.status.Status.TheVariants.{Done, Conflict, TooManyStates, Refused, WriteFault, Memory}
+use Rattle.lp_tool.specs.declared.tool.Prepared.{Prepared}
+
+-- the tables of a grammar, or none where it breaks a rule of valid grammars
+abbrev pub AreTablesOrNone : Grammar → List StartStates → Type 0
+AreTablesOrNone g tables = AreTablesOf g tables ⊎ ((tables ≡ []) × ((rule : ℕ) × (place : ℕ) × RefusesGrammar g (Rule rule place)))
+
+-- a file holds a plain grammar, what it is lowered to, and the tables of that
+abbrev pub IsFile : File → Type 0
+IsFile f = LowersTo f.plain f.lowered × AreTablesOrNone f.lowered f.tables.items
+
+-- its emission is refused
+abbrev pub IsRefused : Grammar → EmitError → Type 0
+IsRefused g error = (tables : List StartStates) × AreTablesOrNone g tables × Refuses g tables error
+
+-- the status that tells of a refusal
+abbrev pub IsRefusal : EmitError → Status → Type 0
+IsRefusal emit.Memory status = status ≡ Memory
+IsRefusal error status = status ≡ Refused error
+
+-- what a status tells of the grammar that the file's is lowered to: the cause for which nothing was
+-- written
+abbrev pub ToldOf : Grammar → Status → Type 0
+ToldOf g (Conflict start path token) = HasNoTables g (none.Conflict start path token)
+ToldOf g (TooManyStates start paths) = HasNoTables g (none.TooManyStates start paths)
+ToldOf g (Refused error) = IsRefused g error
+ToldOf g status = Unit {0}
+
+-- a status that tells nothing of a grammar
+abbrev pub SaysNothing : Status → Type 0
+SaysNothing status = (g : Grammar) → ToldOf g status
+
+-- the tables are those of the grammar, and it may be emitted with them
+abbrev pub IsEmitted : Grammar → List StartStates → Type 0
+IsEmitted g tables = AreTablesOf g tables × MayBeEmitted g tables
+
+-- a plain grammar is answered, and of a grammar that it is lowered to this holds
+abbrev pub TellsOf : Option PlainGrammar → (Grammar → Type 0) → Type 0
+TellsOf answered Holds = (plain : PlainGrammar) × (g : Grammar) × (answered ≡ Some plain) × LowersTo plain g × Holds g
+
+-- what a call tells by its status, the plain grammar and the tables that it answers
+abbrev pub Tells : Option PlainGrammar → List StartStates → Status → Type 0
+Tells answered tables Done = TellsOf answered (λ g. IsEmitted g tables)
+Tells answered tables WriteFault = TellsOf answered (λ g. IsEmitted g tables)
+Tells answered tables (Conflict start path token) = TellsOf answered (λ g. HasNoTables g (none.Conflict start path token))
+Tells answered tables (TooManyStates start paths) = TellsOf answered (λ g. HasNoTables g (none.TooManyStates start paths))
+Tells answered tables (Refused error) = TellsOf answered (λ g. IsRefused g error)
+Tells answered tables status = Unit {0}
+
+-- the plain grammar is answered, but under want of memory
+abbrev pub Holds : PlainGrammar → Status → Option PlainGrammar → Type 0
+Holds plain Memory answered = answered ≡ None
+Holds plain status answered = answered ≡ Some plain
+
+-- what is to be written goes with its grammar and tables
+abbrev pub IsPrepared : Prepared → Type 0
+IsPrepared p = (g : Grammar) × LowersTo p.grammar g × IsEmitted g p.tables.items
