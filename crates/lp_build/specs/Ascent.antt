@@ -1,12 +1,14 @@
 -- State functions of recursive ascent, and what their trials ask.
-use Rattle.std.specs.Prelude.{ℕ, Bool, List, [], ◌∷◌, ◌++◌, map, decimal, Option, Some, None, if◌then◌else◌}
+use Rattle.std.specs.Prelude.{ℕ, Bool, List, [], ◌∷◌, ◌++◌, map, drop, decimal, Option, Some, None, if◌then◌else◌}
 use Rattle.lp_form.specs.declared.part.Part.{Part}
 use Rattle.lp_form.specs.declared.part.Part.TheVariants as part
-use Rattle.lp_tree.specs.ProgramTree.{Item, leaf}
+use Rattle.lp_tree.specs.ProgramTree.{Item, is_part, items, leaf}
+use Rattle.lp_tree.specs.declared.tree.Node.{Node}
 use Rattle.lp_tree.specs.declared.tree.Reduced.{Reduced}
-use Rattle.lp_build.specs.Built.{leaf_if, over, row, text_rows}
+use Rattle.lp_build.specs.Built.{first_parts, leaf_if, over, row, text_rows}
 use Rattle.lp_build.specs.declared.ascent.ErrorLocation.{ErrorLocation}
 use Rattle.lp_build.specs.declared.ascent.ErrorLocation.TheVariants as location
+use Rattle.lp_build.specs.declared.ascent.GotoLoopArm.{GotoLoopArm}
 use Rattle.lp_build.specs.declared.ascent.ReturnVariant.{ReturnVariant}
 use Rattle.lp_build.specs.declared.ascent.TrialArm.{TrialArm}
 use Rattle.lp_build.specs.declared.ascent_reduce.AscentSpan.{AscentSpan}
@@ -57,7 +59,55 @@ reduction_lines r =
     over part.ReduceLines (r.nonterminal ∷ [])
     (((text_rows part.TakeLine (map decimal r.takes.items) ++ ascent_span r.span) ++ call_line r) ++ leaf_if r.returns part.ReturnLine)
 
--- a token, or the end of input
-abbrev pub token_line : Part → Part → Option (List ℕ) → List Item
-token_line with end None = leaf end []
-token_line with end (Some pattern) = leaf with (pattern ∷ [])
+-- the line of a reduction's first token: its only one, the end of input, or the first of several
+abbrev pub first_part : List (List ℕ) → Option (List ℕ) → Part
+first_part [] None = part.ReduceEnd
+first_part [] (Some pattern) = part.ReduceToken
+first_part (t ∷ ts) last = part.ReduceMany
+
+abbrev pub first_holes : List (List ℕ) → Option (List ℕ) → List (List ℕ)
+first_holes [] None = []
+first_holes [] (Some pattern) = pattern ∷ []
+first_holes (t ∷ ts) last = t ∷ []
+
+-- the last of several tokens, or the end of input
+abbrev pub last_token : Option (List ℕ) → List Item
+last_token None = leaf part.LastEnd []
+last_token (Some pattern) = leaf part.LastToken (pattern ∷ [])
+
+-- the tokens after the first of several
+abbrev pub more_tokens : List (List ℕ) → Option (List ℕ) → List Item
+more_tokens [] last = []
+more_tokens (t ∷ ts) last = text_rows part.TokenRow ts ++ last_token last
+
+-- the parts of the header of a state function, and those of what is none
+abbrev pub header_parts : Node → List Item
+header_parts n = if is_part part.HeaderState n then items n else []
+
+abbrev pub but_header : Node → List Item
+but_header n = if is_part part.HeaderState n then [] else items n
+
+-- the gotos of a frame; without arms it answers the result
+abbrev pub loop_part : List GotoLoopArm → Part
+loop_part [] = part.GotoReturn
+loop_part (a ∷ arms) = part.GotoLoop
+
+-- the check of the top slot, where it is optional
+abbrev pub check_lines : Option ℕ → List Item
+check_lines None = []
+check_lines (Some slot) = leaf part.EmptyCheck (decimal slot ∷ [])
+
+-- an arm with the first of the transitions
+abbrev pub goto_lines : GotoLoopArm → List Node → List Item
+goto_lines a transitions = over part.GotoArm (a.nonterminal ∷ decimal a.symbol ∷ []) (first_parts transitions)
+
+-- the arms, each with the next transition
+abbrev pub goto_rows : List GotoLoopArm → List Node → List Item
+goto_rows [] transitions = []
+goto_rows (a ∷ arms) transitions = goto_lines a transitions ++ goto_rows arms (drop 1 transitions)
+
+-- what is below the gotos of a frame
+abbrev pub loop_lines : Option ℕ → List GotoLoopArm → Bool → List Node → List Item
+loop_lines top [] other transitions = []
+loop_lines top (a ∷ arms) other transitions =
+    (check_lines top ++ goto_rows (a ∷ arms) transitions) ++ leaf_if other part.GotoOther

@@ -1,8 +1,9 @@
 -- What constructors put below a form.
-use Rattle.std.specs.Prelude.{ℕ, Bool, List, [], ◌∷◌, ◌++◌, length, map, codes, Option, Some, None, if◌then◌else◌}
+use Rattle.std.specs.Prelude.{ℕ, Bool, List, [], ◌∷◌, length, map, codes, Option, Some, None, if◌then◌else◌}
 use Rattle.std.specs.List.{join_by}
 use Rattle.lp_form.specs.declared.part.Part.{Part}
-use Rattle.lp_tree.specs.ProgramTree.{Item, leaf}
+use Rattle.lp_tree.specs.ProgramTree.{Item, items, leaf}
+use Rattle.lp_tree.specs.declared.tree.Node.{Node}
 
 -- a part with these texts, and with these parts below it
 abbrev pub over : Part → List (List ℕ) → List Item → List Item
@@ -24,6 +25,11 @@ text_if part (Some text) = leaf part (text ∷ [])
 -- a part with nothing in it, where it is asked for
 abbrev pub leaf_if : Bool → Part → List Item
 leaf_if asked part = if asked then leaf part [] else []
+
+-- the parts of the first of some nodes, if there is one
+abbrev pub first_parts : List Node → List Item
+first_parts [] = []
+first_parts (n ∷ ns) = items n
 
 -- texts with ` | ` between each two
 abbrev pub barred : List (List ℕ) → List ℕ

@@ -1,13 +1,37 @@
 -- The forms around the modules.
-use Rattle.std.specs.Prelude.{ℕ, List, [], ◌∷◌, not, Option, Some, None, if◌then◌else◌}
-use Rattle.std.specs.List.{list_any}
+use Rattle.std.specs.Prelude.{ℕ, Bool, ◌||◌, List, [], ◌∷◌, ◌++◌, length, take, drop, not, Option, Some, None, unwrap_or, if◌then◌else◌}
+use Rattle.std.specs.List.{flat_map, list_any, position}
 use Rattle.lp_form.specs.declared.part.Part.{Part}
 use Rattle.lp_form.specs.declared.part.Part.TheVariants as part
-use Rattle.lp_tree.specs.ProgramTree.{Item, leaf}
-use Rattle.lp_build.specs.Built.{leaf_if, row}
+use Rattle.lp_tree.specs.ProgramTree.{Item, is_part, items}
+use Rattle.lp_tree.specs.declared.tree.Node.{Node}
+use Rattle.lp_build.specs.Built.{leaf_if, over, row}
 use Rattle.lp_build.specs.declared.frame.InternEntry.{InternEntry}
 use Rattle.lp_build.specs.declared.frame.Triples.{Triples}
 use Rattle.lp_build.specs.declared.frame.Triples.TheVariants as triples
+
+-- a use, the standard uses or the token use, which stand before the items of a module
+abbrev pub is_before_items : Node → Bool
+is_before_items n =
+    is_part part.UseLine n || is_part part.StandardUses n || is_part part.TokenUseInterned n || is_part part.TokenUsePlain n
+
+-- the place of the first item, or that behind all nodes
+abbrev pub items_place : List Node → ℕ
+items_place ns = unwrap_or (position (λ n. not (is_before_items n)) ns) (length ns)
+
+-- the items of table-driven code, which begin with a symbol enum, or of recursive ascent
+abbrev pub items_part : List Node → Part
+items_part [] = part.AscentItems
+items_part (n ∷ ns) = if is_part part.SymbolEnum n then part.TableItems else part.AscentItems
+
+-- the items of a module as one list, if there are some
+abbrev pub item_list : List Node → List Item
+item_list [] = []
+item_list (n ∷ ns) = over (items_part (n ∷ ns)) [] (flat_map items (n ∷ ns))
+
+-- what is below a module: what stands before the items, and the items
+abbrev pub module_lines : List Node → List Item
+module_lines ns = flat_map items (take (items_place ns) ns) ++ item_list (drop (items_place ns) ns)
 
 -- a regular expression of the tokens, whose matches are kept or skipped
 abbrev pub intern_row : InternEntry → Item

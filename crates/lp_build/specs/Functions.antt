@@ -1,5 +1,5 @@
 -- Headers of functions.
-use Rattle.std.specs.Prelude.{ℕ, Bool, List, [], ◌∷◌, ◌++◌, codes, decimal, if◌then◌else◌, nat_eq, true, false}
+use Rattle.std.specs.Prelude.{ℕ, Bool, List, [], ◌∷◌, codes, decimal, if◌then◌else◌, nat_eq, true, false}
 use Rattle.std.specs.Cmp.Lexicographic.{pointwise}
 use Rattle.lp_form.specs.declared.part.Part.{Part}
 use Rattle.lp_form.specs.declared.part.Part.TheVariants as part

@@ -1,16 +1,18 @@
 //! State functions of recursive ascent, and what their trials ask.
 
-ghost use Rattle.std.specs.Prelude.{◌≡◌, [], ◌∷◌, ◌++◌, map, IfOk};
+ghost use Rattle.std.specs.Prelude.{◌≡◌, [], ◌∷◌, ◌++◌, map, drop, IfOk, OnOk};
+ghost use Rattle.std.specs.Fmt.{decimal};
 ghost use Rattle.std.specs.List.{flat_map};
-ghost use Rattle.lp_build.specs.Ascent.{location_lines, return_row, shift_holes, shift_part, trial_row};
-ghost use Rattle.lp_build.specs.Built.{text_if};
+ghost use Rattle.lp_build.specs.Ascent.{but_header, check_lines, goto_lines, goto_rows, header_parts, location_lines, loop_lines, loop_part, return_row, shift_holes, shift_part, trial_row};
+ghost use Rattle.lp_build.specs.Built.{leaf_if, text_if, text_rows};
 ghost use Rattle.lp_tree.specs.ProgramTree.{head, items, leaf, parts_below};
 
-use super::{add_numbers, add_text, bare, text_row};
+use super::{add_if, add_next, add_numbers, add_text, bare, note_lines, text_row};
 use lp_form::Part;
 use lp_tree::piece::{Name, Piece};
 use lp_tree::tree::{Node, Reduced};
 use std::alloc::{AllocError, Global};
+use std::collections::VecDeque;
 
 /// Form 34: the call of the first state: the state type, each parameter name and `, `, the phantom
 /// expression, and the escaped name of the start nonterminal.
@@ -74,27 +76,55 @@ pub fn state_fn<'t>(
     made_optional: &[u64],
     notes: Vec<Piece<'t>>,
     below: Vec<Node<'t>>,
-) -> Result<Node<'t>, AllocError> {
+) -> Result<Node<'t>, AllocError>
+    ensures head { IfOk result (λ n. head n ≡ (Part.StateFn, triple.entry ∷ type_parameters.entry ∷ [], [])) }
+    ensures below { IfOk result (λ n. parts_below n ≡ ((flat_map header_parts below.entry.items ++ leaf_if next_token Part.NextToken) ++ text_rows Part.SlotLine (map decimal made_optional.now)) ++ flat_map but_header below.entry.items) }
+{
     let mut node = Node::leaf(
         alloc,
         Part::StateFn,
         vec![in alloc; triple, type_parameters]?,
     )?;
-    node.note(alloc, notes)?;
     let mut rest = bare(alloc, Part::StateFn)?;
-    for child in below {
-        if child.is(Part::HeaderState) {
-            node.add(child)?;
-        } else {
-            rest.add(child)?;
-        }
-    }
-    if next_token {
-        node.add(bare(alloc, Part::NextToken)?)?;
-    }
+    add_by_header(&mut node, &mut rest, below)?;
+    add_if(alloc, &mut node, next_token, Part::NextToken)?;
     add_numbers(alloc, &mut node, Part::SlotLine, made_optional)?;
     node.add_below(rest)?;
+    note_lines(alloc, &mut node, notes)?;
     Ok(node)
+}
+
+/// Puts the headers below the node, and the other nodes below the rest.
+fn add_by_header<'t>(
+    node: &mut Node<'t>,
+    rest: &mut Node<'t>,
+    children: Vec<Node<'t>>,
+) -> Result<(), AllocError>
+    ensures head { head node.new ≡ head node.old }
+    ensures below { OnOk result (parts_below node.new ≡ parts_below node.old ++ flat_map header_parts children.entry.items) }
+    ensures rest { OnOk result (parts_below rest.new ≡ parts_below rest.old ++ flat_map but_header children.entry.items) }
+{
+    for child in children {
+        add_header_or_rest(node, rest, child)?;
+    }
+    Ok(())
+}
+
+/// Puts a header below the node, and another node below the rest.
+fn add_header_or_rest<'t>(
+    node: &mut Node<'t>,
+    rest: &mut Node<'t>,
+    child: Node<'t>,
+) -> Result<(), AllocError>
+    ensures head { head node.new ≡ head node.old }
+    ensures below { OnOk result (parts_below node.new ≡ parts_below node.old ++ header_parts child.entry) }
+    ensures rest { OnOk result (parts_below rest.new ≡ parts_below rest.old ++ but_header child.entry) }
+{
+    if child.is(Part::HeaderState) {
+        node.add(child)
+    } else {
+        rest.add(child)
+    }
 }
 
 /// Form 37: a shift: the pattern, the number of the symbol, and the names of the captures joined by
@@ -192,36 +222,68 @@ pub fn goto_loop<'t>(
     arms: Vec<GotoLoopArm<'t>>,
     other: bool,
     below: Vec<Node<'t>>,
-) -> Result<Node<'t>, AllocError> {
+) -> Result<Node<'t>, AllocError>
+    ensures head { IfOk result (λ n. head n ≡ (loop_part arms.entry.items, [], [])) }
+    ensures below { IfOk result (λ n. parts_below n ≡ loop_lines optional_top arms.entry.items other below.entry.items) }
+{
     if arms.is_empty() {
         return bare(alloc, Part::GotoReturn);
     }
     let mut node = bare(alloc, Part::GotoLoop)?;
-    match optional_top {
-        Some(slot) => {
-            node.add(text_row(alloc, Part::EmptyCheck, Piece::number(alloc, slot)?)?)?;
-        }
-        None => {}
-    }
-    let mut transitions = below;
-    transitions.reverse();
-    for arm in arms {
-        let GotoLoopArm {
-            nonterminal,
-            symbol,
-        } = arm;
-        let symbol = Piece::number(alloc, symbol)?;
-        let mut row = Node::leaf(alloc, Part::GotoArm, vec![in alloc; nonterminal, symbol]?)?;
-        match transitions.pop() {
-            Some(transition) => row.add(transition)?,
-            None => {}
-        }
-        node.add(row)?;
-    }
-    if other {
-        node.add(bare(alloc, Part::GotoOther)?)?;
-    }
+    add_check(alloc, &mut node, optional_top)?;
+    add_gotos(alloc, &mut node, arms, VecDeque::from(below))?;
+    add_if(alloc, &mut node, other, Part::GotoOther)?;
     Ok(node)
+}
+
+/// Puts the check of the top slot below the node, where it is optional.
+fn add_check<'t>(
+    alloc: Global,
+    node: &mut Node<'t>,
+    optional_top: Option<u64>,
+) -> Result<(), AllocError>
+    ensures head { head node.new ≡ head node.old }
+    ensures below { OnOk result (parts_below node.new ≡ parts_below node.old ++ check_lines optional_top) }
+{
+    match optional_top {
+        None => Ok(()),
+        Some(slot) => node.add(text_row(alloc, Part::EmptyCheck, Piece::number(alloc, slot)?)?),
+    }
+}
+
+/// Puts the arms below the node, each with the next transition.
+fn add_gotos<'t>(
+    alloc: Global,
+    node: &mut Node<'t>,
+    arms: Vec<GotoLoopArm<'t>>,
+    mut transitions: VecDeque<Node<'t>>,
+) -> Result<(), AllocError>
+    ensures head { head node.new ≡ head node.old }
+    ensures below { OnOk result (parts_below node.new ≡ parts_below node.old ++ goto_rows arms.entry.items transitions.entry.items) }
+{
+    for arm in arms {
+        node.add(goto_arm(alloc, arm, &mut transitions)?)?;
+    }
+    Ok(())
+}
+
+/// One arm, with the next transition.
+fn goto_arm<'t>(
+    alloc: Global,
+    arm: GotoLoopArm<'t>,
+    transitions: &mut VecDeque<Node<'t>>,
+) -> Result<Node<'t>, AllocError>
+    ensures items { IfOk result (λ n. items n ≡ goto_lines arm.entry transitions.old.items) }
+    ensures left { OnOk result (transitions.new.items ≡ drop 1 transitions.old.items) }
+{
+    let GotoLoopArm {
+        nonterminal,
+        symbol,
+    } = arm;
+    let symbol = Piece::number(alloc, symbol)?;
+    let mut row = Node::leaf(alloc, Part::GotoArm, vec![in alloc; nonterminal, symbol]?)?;
+    add_next(&mut row, transitions)?;
+    Ok(row)
 }
 
 /// A production of a trial; the start's reduces nothing.

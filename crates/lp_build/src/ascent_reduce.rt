@@ -2,15 +2,16 @@
 
 ghost use Rattle.std.specs.Prelude.{◌≡◌, [], ◌∷◌, ◌++◌, map, IfOk, if◌then◌else◌};
 ghost use Rattle.std.specs.Fmt.{decimal};
-ghost use Rattle.lp_build.specs.Ascent.{ascent_span, reduction_lines, token_line};
+ghost use Rattle.lp_build.specs.Ascent.{ascent_span, first_holes, first_part, last_token, more_tokens, reduction_lines};
 ghost use Rattle.lp_build.specs.Built.{leaf_if, text_rows};
 ghost use Rattle.lp_tree.specs.ProgramTree.{head, items, leaf, parts_below};
 
-use super::{add_if, add_numbers, bare, text_row};
+use super::{add_if, add_numbers, add_texts, bare, text_row};
 use lp_form::Part;
 use lp_tree::piece::Piece;
 use lp_tree::tree::Node;
 use std::alloc::{AllocError, Global};
+use std::collections::VecDeque;
 
 /// The span of a reduction.
 #[derive(Drop)]
@@ -105,21 +106,6 @@ fn call_line<'t>(
     )
 }
 
-/// The part of a token that isn't the last one, or is.
-fn token_row<'t>(
-    alloc: Global,
-    with: Part,
-    end: Part,
-    token: Option<Piece<'t>>,
-) -> Result<Node<'t>, AllocError>
-    ensures { IfOk result (λ n. items n ≡ token_line with end token.entry) }
-{
-    match token {
-        Some(pattern) => text_row(alloc, with, pattern),
-        None => bare(alloc, end),
-    }
-}
-
 /// Form 38: a reduction: the patterns of the tokens but the last, the last token (None is the end of
 /// input), and what it does.
 pub fn reduce_arm<'t>(
@@ -127,24 +113,67 @@ pub fn reduce_arm<'t>(
     tokens: Vec<Piece<'t>>,
     last: Option<Piece<'t>>,
     reduction: Reduction<'t>,
-) -> Result<Node<'t>, AllocError> {
-    let mut first = true;
-    let mut node = bare(alloc, Part::ReduceMany)?;
-    for token in tokens {
-        if first {
-            node = text_row(alloc, Part::ReduceMany, token)?;
-            first = false;
-        } else {
-            node.add(text_row(alloc, Part::TokenRow, token)?)?;
-        }
-    }
-    if first {
-        node = token_row(alloc, Part::ReduceToken, Part::ReduceEnd, last)?;
-    } else {
-        node.add(token_row(alloc, Part::LastToken, Part::LastEnd, last)?)?;
-    }
+) -> Result<Node<'t>, AllocError>
+    ensures head { IfOk result (λ n. head n ≡ (first_part tokens.entry.items last.entry, first_holes tokens.entry.items last.entry, [])) }
+    ensures below { IfOk result (λ n. parts_below n ≡ more_tokens tokens.entry.items last.entry ++ reduction_lines reduction.entry) }
+{
+    let mut node = token_lines(alloc, tokens, last)?;
     node.add(reduce_lines(alloc, reduction)?)?;
     Ok(node)
+}
+
+/// The tokens of a reduction: those but the last, and the last one.
+#[tactic(auto, using(std::proofs::lemmas::Grind::common_steps, crate::proofs::Tokens::first_part_none, crate::proofs::Tokens::first_holes_none, crate::proofs::Tokens::more_tokens_none))]
+fn token_lines<'t>(
+    alloc: Global,
+    tokens: Vec<Piece<'t>>,
+    last: Option<Piece<'t>>,
+) -> Result<Node<'t>, AllocError>
+    ensures head { IfOk result (λ n. head n ≡ (first_part tokens.entry.items last.entry, first_holes tokens.entry.items last.entry, [])) }
+    ensures below { IfOk result (λ n. parts_below n ≡ more_tokens tokens.entry.items last.entry) }
+{
+    let mut tokens = VecDeque::from(tokens);
+    match tokens.pop_front() {
+        None => only_token(alloc, last),
+        Some(first) => several_tokens(alloc, first, Vec::from(tokens), last),
+    }
+}
+
+/// The only token of a reduction.
+fn only_token<'t>(alloc: Global, token: Option<Piece<'t>>) -> Result<Node<'t>, AllocError>
+    ensures head { IfOk result (λ n. head n ≡ (first_part [] token.entry, first_holes [] token.entry, [])) }
+    ensures below { IfOk result (λ n. parts_below n ≡ []) }
+{
+    match token {
+        Some(pattern) => text_row(alloc, Part::ReduceToken, pattern),
+        None => bare(alloc, Part::ReduceEnd),
+    }
+}
+
+/// The first token of a reduction, those between, and the last one.
+fn several_tokens<'t>(
+    alloc: Global,
+    first: Piece<'t>,
+    between: Vec<Piece<'t>>,
+    last: Option<Piece<'t>>,
+) -> Result<Node<'t>, AllocError>
+    ensures head { IfOk result (λ n. head n ≡ (Part.ReduceMany, first.entry ∷ [], [])) }
+    ensures below { IfOk result (λ n. parts_below n ≡ text_rows Part.TokenRow between.entry.items ++ last_token last.entry) }
+{
+    let mut node = text_row(alloc, Part::ReduceMany, first)?;
+    add_texts(alloc, &mut node, Part::TokenRow, between)?;
+    node.add(last_token(alloc, last)?)?;
+    Ok(node)
+}
+
+/// The last of several tokens.
+fn last_token<'t>(alloc: Global, token: Option<Piece<'t>>) -> Result<Node<'t>, AllocError>
+    ensures { IfOk result (λ n. items n ≡ last_token token.entry) }
+{
+    match token {
+        Some(pattern) => text_row(alloc, Part::LastToken, pattern),
+        None => bare(alloc, Part::LastEnd),
+    }
 }
 
 /// Form 40: the call of another state: the optional slots that it takes, the state, each parameter

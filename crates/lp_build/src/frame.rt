@@ -1,9 +1,9 @@
 //! The forms around the modules.
 
-ghost use Rattle.std.specs.Prelude.{◌≡◌, [], ◌∷◌, ◌++◌, map, IfOk, OnOk, if◌then◌else◌};
-ghost use Rattle.std.specs.List.{flat_map, list_any};
+ghost use Rattle.std.specs.Prelude.{◌≡◌, ◌<◌, ◌≤◌, [], ◌∷◌, ◌++◌, length, map, not, IfOk, IfSome, OnOk, if◌then◌else◌};
+ghost use Rattle.std.specs.List.{flat_map, list_any, position};
 ghost use Rattle.lp_build.specs.Built.{over};
-ghost use Rattle.lp_build.specs.Frame.{hole_if, intern_row, triple_holes, triple_part, white_space};
+ghost use Rattle.lp_build.specs.Frame.{hole_if, intern_row, is_before_items, item_list, items_part, items_place, module_lines, triple_holes, triple_part, white_space};
 ghost use Rattle.lp_tree.specs.ProgramTree.{head, items, leaf, parts_below, program_items};
 
 use super::{add_if, add_text, bare, text_row};
@@ -57,49 +57,76 @@ pub fn parse_module<'t>(
     alloc: Global,
     start: Name<'t>,
     below: Vec<Node<'t>>,
-) -> Result<Node<'t>, AllocError> {
-    let mut module = text_row(alloc, Part::ParseModule, start.into_piece())?;
-    let mut items: Option<Node<'t>> = None;
-    for child in below {
-        match items {
-            Some(mut rest) => {
-                rest.add(child)?;
-                items = Some(rest);
-            }
-            None => {
-                if is_before_items(&child) {
-                    module.add(child)?;
-                } else {
-                    items = Some(items_with(alloc, child)?);
-                }
-            }
-        }
+) -> Result<Node<'t>, AllocError>
+    ensures head { IfOk result (λ n. head n ≡ (Part.ParseModule, start.entry ∷ [], [])) }
+    ensures below { IfOk result (λ n. parts_below n ≡ module_lines below.entry.items) }
+{
+    let mut node = text_row(alloc, Part::ParseModule, start.into_piece())?;
+    let mut front = below;
+    let place = items_place(front.as_slice());
+    let rest = front.split_off(place)?;
+    node.add_all(front)?;
+    add_items(alloc, &mut node, rest)?;
+    Ok(node)
+}
+
+/// The place of the first item, or that behind all nodes.
+fn items_place(nodes: &[Node<'_>]) -> usize
+    ensures place { result ≡ items_place nodes.now }
+    ensures within { result ≤ length nodes.now }
+{
+    match first_item(nodes) {
+        Some(place) => place,
+        None => nodes.len(),
     }
-    match items {
-        Some(items) => module.add(items)?,
-        None => {}
-    }
-    Ok(module)
+}
+
+/// The place of the first item, if there is one.
+fn first_item(nodes: &[Node<'_>]) -> Option<usize>
+    ensures place { result ≡ position (λ n. not (is_before_items n)) nodes.now }
+    ensures within { IfSome result (λ place. place < length nodes.now) }
+{
+    nodes.iter().position(|node| !is_before_items(node))
 }
 
 /// A use, the standard uses or the token use.
-fn is_before_items(node: &Node<'_>) -> bool {
+fn is_before_items(node: &Node<'_>) -> bool
+    ensures { result ≡ is_before_items node.now }
+{
     node.is(Part::UseLine)
         || node.is(Part::StandardUses)
         || node.is(Part::TokenUseInterned)
         || node.is(Part::TokenUsePlain)
 }
 
-/// The items of a module that begin with this one.
-fn items_with<'t>(alloc: Global, first: Node<'t>) -> Result<Node<'t>, AllocError> {
-    let part = if first.is(Part::SymbolEnum) {
-        Part::TableItems
-    } else {
-        Part::AscentItems
-    };
-    let mut items = bare(alloc, part)?;
-    items.add(first)?;
-    Ok(items)
+/// Puts the items of a module below the node as one list, if there are some.
+fn add_items<'t>(alloc: Global, node: &mut Node<'t>, nodes: Vec<Node<'t>>) -> Result<(), AllocError>
+    ensures head { head node.new ≡ head node.old }
+    ensures below { OnOk result (parts_below node.new ≡ parts_below node.old ++ item_list nodes.entry.items) }
+{
+    if nodes.is_empty() {
+        return Ok(());
+    }
+    let part = items_part(nodes.as_slice());
+    let mut list = bare(alloc, part)?;
+    list.add_all(nodes)?;
+    node.add(list)
+}
+
+/// The items of table-driven code, which begin with a symbol enum, or of recursive ascent.
+fn items_part(nodes: &[Node<'_>]) -> Part
+    ensures { result ≡ items_part nodes.now }
+{
+    match nodes.split_first() {
+        None => Part::AscentItems,
+        Some((first, _)) => {
+            if first.is(Part::SymbolEnum) {
+                Part::TableItems
+            } else {
+                Part::AscentItems
+            }
+        }
+    }
 }
 
 /// Form 6: where the token type, or the trait of the tokens, comes from.

@@ -11,11 +11,11 @@ mod machine;
 mod reductions;
 mod table;
 
-ghost use Rattle.std.specs.Prelude.{◌≡◌, [], ◌∷◌, ◌++◌, map, codes, string_bytes, IfOk, OnOk};
+ghost use Rattle.std.specs.Prelude.{◌≡◌, [], ◌∷◌, ◌++◌, map, drop, codes, string_bytes, IfOk, OnOk};
 ghost use Rattle.std.specs.Fmt.{decimal};
 ghost use Rattle.std.specs.List.{flat_map};
 ghost use Rattle.lp_tree.specs.ProgramTree.{head, items, leaf, parts_below};
-ghost use Rattle.lp_build.specs.Built.{barred, leaf_if, text_if, text_rows};
+ghost use Rattle.lp_build.specs.Built.{barred, first_parts, leaf_if, text_if, text_rows};
 
 pub use action::{ActionBody, InlineCall, InlineSpan, OuterCall, action_fn};
 pub use ascent::{
@@ -40,6 +40,7 @@ pub use reductions::{
 };
 use std::alloc::{AllocError, Global};
 use std::borrow::CowStr;
+use std::collections::VecDeque;
 pub use table::{
     GotoArm, IntegerArm, StateRange, Variant, action_lookup, action_table, eof_table, expected,
     expected_from_states, goto_fn, goto_match, goto_one, symbol_arm, symbol_enum, terminal_list,
@@ -137,6 +138,46 @@ fn add_if<'t>(alloc: Global, node: &mut Node<'t>, asked: bool, part: Part) -> Re
         node.add(bare(alloc, part)?)?;
     }
     Ok(())
+}
+
+/// Takes the first of the nodes, if there is one, and puts it below the node.
+#[tactic(auto, using(std::proofs::lemmas::Grind::common_steps, crate::proofs::Nodes::first_parts_none))]
+fn add_next<'t>(node: &mut Node<'t>, nodes: &mut VecDeque<Node<'t>>) -> Result<(), AllocError>
+    ensures head { head node.new ≡ head node.old }
+    ensures below { OnOk result (parts_below node.new ≡ parts_below node.old ++ first_parts nodes.old.items) }
+    ensures left { nodes.new.items ≡ drop 1 nodes.old.items }
+{
+    match nodes.pop_front() {
+        None => Ok(()),
+        Some(next) => node.add(next),
+    }
+}
+
+/// Gives the node comment lines.
+fn note_lines<'t>(
+    alloc: Global,
+    node: &mut Node<'t>,
+    lines: Vec<Piece<'t>>,
+) -> Result<(), AllocError>
+    ensures head { head node.new ≡ head node.old }
+    ensures below { parts_below node.new ≡ parts_below node.old }
+{
+    node.note(alloc, lines)
+}
+
+/// Gives the node a comment line, if there is one.
+fn note_if<'t>(
+    alloc: Global,
+    node: &mut Node<'t>,
+    note: Option<Piece<'t>>,
+) -> Result<(), AllocError>
+    ensures head { head node.new ≡ head node.old }
+    ensures below { parts_below node.new ≡ parts_below node.old }
+{
+    match note {
+        None => Ok(()),
+        Some(note) => note_lines(alloc, node, vec![in alloc; note]?),
+    }
 }
 
 /// The texts joined by ` | `.

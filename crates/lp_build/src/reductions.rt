@@ -1,16 +1,17 @@
 //! Reductions of the table-driven code.
 
-ghost use Rattle.std.specs.Prelude.{◌≡◌, [], ◌∷◌, ◌++◌, IfOk};
+ghost use Rattle.std.specs.Prelude.{◌≡◌, [], ◌∷◌, ◌++◌, length, IfOk, OnOk};
 ghost use Rattle.std.specs.List.{flat_map};
 ghost use Rattle.lp_build.specs.Built.{text_if, text_rows};
-ghost use Rattle.lp_build.specs.Reductions.{outcome_of, span_of};
+ghost use Rattle.lp_build.specs.Reductions.{all_arms, arm_lines, assert_lines, bodies_after, body_in, but_body, call_of, outcome_of, pop_lines, span_of};
 ghost use Rattle.lp_tree.specs.ProgramTree.{head, items, leaf, parts_below};
 
-use super::{add_text, add_texts, bare, text_row};
+use super::{add_next, add_text, add_texts, bare, note_if, text_row};
 use lp_form::Part;
 use lp_tree::piece::{Name, Piece};
 use lp_tree::tree::Node;
 use std::alloc::{AllocError, Global};
+use std::collections::VecDeque;
 
 /// The call of a production's own function: each parameter name and `, `, and the phantom
 /// expression.
@@ -32,8 +33,12 @@ fn add_arm<'t>(
     alloc: Global,
     node: &mut Node<'t>,
     arm: ReduceArm<'t>,
-    bodies: &mut Vec<Node<'t>>,
-) -> Result<(), AllocError> {
+    bodies: &mut VecDeque<Node<'t>>,
+) -> Result<(), AllocError>
+    ensures head { head node.new ≡ head node.old }
+    ensures below { OnOk result (parts_below node.new ≡ parts_below node.old ++ arm_lines arm.entry bodies.old.items) }
+    ensures left { OnOk result (bodies.new.items ≡ bodies_after arm.entry bodies.old.items) }
+{
     let ReduceArm { production, call } = arm;
     let production = Piece::number(alloc, production)?;
     match call {
@@ -44,13 +49,61 @@ fn add_arm<'t>(
         }
         None => {
             let mut row = text_row(alloc, Part::ReduceBodyArm, production)?;
-            match bodies.pop() {
-                Some(body) => row.add(body)?,
-                None => {}
-            }
+            add_next(&mut row, bodies)?;
             node.add(row)
         }
     }
+}
+
+/// Puts the arms below the node, and then the bodies that they leave.
+fn add_arms<'t>(
+    alloc: Global,
+    node: &mut Node<'t>,
+    arms: Vec<ReduceArm<'t>>,
+    mut bodies: VecDeque<Node<'t>>,
+) -> Result<(), AllocError>
+    ensures head { head node.new ≡ head node.old }
+    ensures below { OnOk result (parts_below node.new ≡ parts_below node.old ++ all_arms arms.entry.items bodies.entry.items) }
+{
+    for arm in arms {
+        add_arm(alloc, node, arm, &mut bodies)?;
+    }
+    node.add_all(Vec::from(bodies))
+}
+
+/// Puts a node below the first one, or a body behind the bodies.
+fn add_or_keep<'t>(
+    node: &mut Node<'t>,
+    bodies: &mut Vec<Node<'t>>,
+    child: Node<'t>,
+) -> Result<(), AllocError>
+    ensures head { head node.new ≡ head node.old }
+    ensures below { OnOk result (parts_below node.new ≡ parts_below node.old ++ but_body child.entry) }
+    ensures bodies { OnOk result (bodies.new.items ≡ bodies.old.items ++ body_in child.entry) }
+{
+    if child.is(Part::ReduceBody) {
+        bodies.push(child)?;
+        Ok(())
+    } else {
+        node.add(child)
+    }
+}
+
+/// Puts all nodes but the bodies below the node, and answers the bodies.
+fn add_but_bodies<'t>(
+    alloc: Global,
+    node: &mut Node<'t>,
+    children: Vec<Node<'t>>,
+) -> Result<Vec<Node<'t>>, AllocError>
+    ensures head { head node.new ≡ head node.old }
+    ensures below { OnOk result (parts_below node.new ≡ parts_below node.old ++ flat_map but_body children.entry.items) }
+    ensures bodies { IfOk result (λ v. v.items ≡ flat_map body_in children.entry.items) }
+{
+    let mut bodies = Vec::new(alloc);
+    for child in children {
+        add_or_keep(node, &mut bodies, child)?;
+    }
+    Ok(bodies)
 }
 
 /// Form 29: the reductions by production. Below it: the header, and in order the bodies of the arms
@@ -59,23 +112,13 @@ pub fn reduce<'t>(
     alloc: Global,
     arms: Vec<ReduceArm<'t>>,
     below: Vec<Node<'t>>,
-) -> Result<Node<'t>, AllocError> {
+) -> Result<Node<'t>, AllocError>
+    ensures head { IfOk result (λ n. head n ≡ (Part.Reduce, [], [])) }
+    ensures below { IfOk result (λ n. parts_below n ≡ flat_map but_body below.entry.items ++ all_arms arms.entry.items (flat_map body_in below.entry.items)) }
+{
     let mut node = bare(alloc, Part::Reduce)?;
-    let mut bodies = Vec::new(alloc);
-    for child in below {
-        if child.is(Part::ReduceBody) {
-            bodies.push(child)?;
-        } else {
-            node.add(child)?;
-        }
-    }
-    bodies.reverse();
-    for arm in arms {
-        add_arm(alloc, &mut node, arm, &mut bodies)?;
-    }
-    while let Some(body) = bodies.pop() {
-        node.add(body)?;
-    }
+    let bodies = add_but_bodies(alloc, &mut node, below)?;
+    add_arms(alloc, &mut node, arms, VecDeque::from(bodies))?;
     Ok(node)
 }
 
@@ -86,17 +129,28 @@ pub struct Produced<'t> {
     pub nonterminal: u64,
 }
 
+/// Puts the line below the node that asserts the number of symbols, where there are several.
+fn add_assert<'t>(alloc: Global, node: &mut Node<'t>, symbols: usize) -> Result<(), AllocError>
+    ensures head { head node.new ≡ head node.old }
+    ensures below { OnOk result (parts_below node.new ≡ parts_below node.old ++ assert_lines symbols) }
+{
+    if symbols > 1 {
+        let count = Piece::number(alloc, symbols as u64)?;
+        node.add(text_row(alloc, Part::AssertLine, count)?)?;
+    }
+    Ok(())
+}
+
 /// Puts the lines below the node that pop the symbols, the last one first.
+#[tactic(auto, using(std::proofs::lemmas::Grind::common_steps, crate::proofs::Pops::pops_last, crate::proofs::Pops::pops_more))]
 fn add_pops<'t>(
     alloc: Global,
     node: &mut Node<'t>,
-    variants: Vec<Name<'t>>,
-) -> Result<(), AllocError> {
-    let mut variants = variants;
-    if variants.len() > 1 {
-        let count = Piece::number(alloc, variants.len() as u64)?;
-        node.add(text_row(alloc, Part::AssertLine, count)?)?;
-    }
+    mut variants: Vec<Name<'t>>,
+) -> Result<(), AllocError>
+    ensures head { head node.new ≡ head node.old }
+    ensures below { OnOk result (parts_below node.new ≡ parts_below node.old ++ pop_lines 0 variants.entry.items) }
+{
     while let Some(variant) = variants.pop() {
         let number = Piece::number(alloc, variants.len() as u64)?;
         let holes = vec![in alloc; number, variant.into_piece()]?;
@@ -153,28 +207,42 @@ pub fn reduce_body<'t>(
     fallible: bool,
     produced: Option<Produced<'t>>,
     note: Option<Piece<'t>>,
-) -> Result<Node<'t>, AllocError> {
+) -> Result<Node<'t>, AllocError>
+    ensures head { IfOk result (λ n. head n ≡ (Part.ReduceBody, [], [])) }
+    ensures below { let symbols = length variants.entry.items in IfOk result (λ n. parts_below n ≡ (((assert_lines symbols ++ pop_lines 0 variants.entry.items) ++ span_of symbols) ++ call_of fallible action type_arguments.entry arguments.entry) ++ outcome_of symbols produced.entry) }
+{
     let symbols = variants.len();
     let mut node = bare(alloc, Part::ReduceBody)?;
-    match note {
-        Some(note) => node.note(alloc, vec![in alloc; note]?)?,
-        None => {}
-    }
+    add_assert(alloc, &mut node, symbols)?;
     add_pops(alloc, &mut node, variants)?;
     node.add(span_lines(alloc, symbols)?)?;
+    node.add(call_line(alloc, fallible, action, type_arguments, arguments)?)?;
+    node.add(outcome_lines(alloc, symbols, produced)?)?;
+    note_if(alloc, &mut node, note)?;
+    Ok(node)
+}
+
+/// The call of an action.
+fn call_line<'t>(
+    alloc: Global,
+    fallible: bool,
+    action: u64,
+    type_arguments: Piece<'t>,
+    arguments: Piece<'t>,
+) -> Result<Node<'t>, AllocError>
+    ensures { IfOk result (λ n. items n ≡ call_of fallible action type_arguments.entry arguments.entry) }
+{
     let part = if fallible {
         Part::CallFallible
     } else {
         Part::CallPlain
     };
     let action = Piece::number(alloc, action)?;
-    node.add(Node::leaf(
+    Node::leaf(
         alloc,
         part,
         vec![in alloc; action, type_arguments, arguments]?,
-    )?)?;
-    node.add(outcome_lines(alloc, symbols, produced)?)?;
-    Ok(node)
+    )
 }
 
 /// Form 31: a symbol of another variant.

@@ -1,5 +1,15 @@
-use Rattle.std.proofs.Common.{vec_len}
+-- What stands below so far and the symbols that are left are what stood there and all symbols.
+use Rattle.std.proofs.Common.{◌≡◌, ◌++◌, vec_len}
+use Rattle.lp_build.specs.Reductions.{pop_lines}
+use Rattle.lp_tree.specs.ProgramTree.{head, parts_below}
 use Rattle.lp_build.proofs.reductions.add_pops.Given as goal
+
+abbrev pub invariant-loop-variant : goal.invariant-loop-variant
+invariant-loop-variant l = record {
+  head : head l.node ≡ head l.initial.node;
+  below : parts_below l.node ++ pop_lines 0 l.variants.items
+      ≡ parts_below l.initial.node ++ pop_lines 0 l.initial.variants.items;
+}
 
 abbrev pub decreases-loop-variant : goal.decreases-loop-variant
 decreases-loop-variant l = vec_len l.variants

@@ -1,5 +1,5 @@
 -- The texts so far.
-use Rattle.std.proofs.Common.{◌≡◌, decimal, map, take}
+use Rattle.std.proofs.Common.{◌≡◌, map, take}
 use Rattle.lp_build.specs.Tables.{range_text}
 use Rattle.lp_build.proofs.table.range_texts.Given as goal
 
