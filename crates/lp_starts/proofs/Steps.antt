@@ -1,5 +1,5 @@
 -- The tables of one start more.
-use Rattle.std.proofs.Common.{◌≡◌, ℕ, ◌+◌, ◌<◌, ◌≤◌, ◌⊎◌, List, [], ◌∷◌, ◌++◌, length, get_or, map, Option, Some, None, arith, sym, ap, ◌∙◌, subst, ⊎_elim, tt}
+use Rattle.std.proofs.Common.{◌≡◌, ℕ, ◌+◌, ◌<◌, ◌≤◌, List, [], ◌∷◌, ◌++◌, length, get_or, map, Some, None, arith, sym, ap, ◌∙◌, subst, ⊎_elim}
 use Rattle.std.specs.List.{slice_get}
 use Rattle.std.specs.Borrow.{Bor}
 use Rattle.std.specs.BTreeMap.{keys}
@@ -30,12 +30,12 @@ first_more g n ts t h is = (
 -- all of them
 pub first_all : (g : Grammar) (names : List (Bor NonterminalString)) (n : ℕ) (ts : List StartStates) → map deref names ≡ keys g.start_nonterminals → n ≡ length names → AreFirst g n ts → AreFirst g (length (keys g.start_nonterminals)) ts
 first_all g names n ts named all h =
-    (h.0 ∙ all ∙ sym (length-map deref names) ∙ ap length named, h.1)
+    (h.0 ∙ all ∙ sym (length-map names deref) ∙ ap length named, h.1)
 
 -- those that have tables have states
 pub none_before : (g : Grammar) (n : ℕ) (ts : List StartStates) → AreFirst g n ts → HaveNoFault g n
 none_before g n ts h = λ k lt. ⊎_elim
-    (λ (a : (x : StartStates) × (k < length ts) × (slice_get ts k ≡ Some x) × (get_or ts k x ≡ x)). (a.0.states, (h.1 k a.0 a.1.1.0).1))
+    (λ (a : (x : StartStates) × (k < length ts) × (slice_get ts k ≡ Some x) × (get_or ts k x ≡ x)). (a.0.states, (h.1 k a.0 a.2).1))
     (λ (a : (length ts ≤ k) × (slice_get ts k ≡ None)). absurd (omega (arith, a.0, h.0, lt)))
     (slice_get_cases ts k).1
 

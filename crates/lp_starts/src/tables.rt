@@ -1,17 +1,16 @@
 //! The canonical states of each start of a grammar.
 
-ghost use Rattle.std.specs.Prelude.{◌≡◌, ◌<◌, ℕ, map, Some, IfOk, IfErr, MatchResult, slice_get};
+ghost use Rattle.std.specs.Prelude.{◌≡◌, map, Some, IfOk, IfErr, MatchResult, slice_get};
 ghost use Rattle.std.specs.Map.Iter.{deref};
 ghost use Rattle.std.specs.BTreeMap.{keys};
-ghost use Rattle.lp_repr.specs.declared.lr1.StartStates.{StartStates};
 ghost use Rattle.lp_valid.specs.ValidGrammar.{IsValidGrammar};
-ghost use Rattle.lp_starts.specs.Tables.{AreTablesOf, HasNoTables, HaveNoFault, IsFaultAt, IsTableOf, StopsAt};
+ghost use Rattle.lp_starts.specs.Tables.{AreTablesOf, HasNoTables, IsFaultAt, IsTableOf, StopsAt};
 
 use lp_repr::repr::{Grammar, NonterminalString, Symbol};
 use lp_repr::{Items, StartStates, Token};
 use lp_states::{BuildFault, build_states};
 use lp_valid::{GrammarFault, check_grammar};
-use std::alloc::{AllocError, Global};
+use std::alloc::{AllocError, AllocFailed, Global};
 
 /// Why a grammar has no tables.
 #[derive(Debug, PartialEq, Eq, Drop)]
@@ -43,6 +42,17 @@ impl From<AllocError> for TablesFault {
     ghost from_gives = { λ _ e. e ≡ Memory };
 
     fn from(_e: AllocError) -> TablesFault {
+        TablesFault::Memory
+    }
+}
+
+impl<T: Drop> From<AllocFailed<T>> for TablesFault {
+    ghost use Rattle.std.specs.Prelude.{◌≡◌};
+    ghost use Rattle.lp_starts.specs.declared.tables.TablesFault.TheVariants.{Memory};
+
+    ghost from_gives = { λ _ e. e ≡ Memory };
+
+    fn from(_e: AllocFailed<T>) -> TablesFault {
         TablesFault::Memory
     }
 }
@@ -104,7 +114,7 @@ fn table_of(
 
 /// The fault of a start of this number.
 fn at_start(start: usize, fault: BuildFault) -> TablesFault
-    ensures { StopsAt start fault.entry result }
+    ensures { StopsAt start fault result }
 {
     match fault {
         BuildFault::Conflict { path, token } => TablesFault::Conflict { start, path, token },
