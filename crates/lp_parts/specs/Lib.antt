@@ -3,3 +3,10 @@ pub mod Entries
 pub mod Gotos
 pub mod GotoPlaces
 pub mod GotoLaw
+pub mod Filter
+pub mod Texts
+pub mod Phantom
+pub mod Variants
+pub mod Comments
+pub mod Named
+pub mod MachineParameters

@@ -7,8 +7,10 @@ pub mod entries;
 pub mod filter;
 pub mod gotos;
 pub mod machine_parameters;
+mod named;
 pub mod number_type;
 pub mod phantom;
+mod referents;
 pub mod texts;
 pub mod variants;
 

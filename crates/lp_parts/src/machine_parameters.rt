@@ -1,5 +1,15 @@
 //! The type parameters, fields and where clauses of the state machine.
 
+ghost use Rattle.std.specs.Prelude.{◌≡◌, false, [], ◌∷◌, ◌++◌, fold, map, IfOk, OnOk};
+ghost use Rattle.std.specs.List.{flat_map};
+ghost use Rattle.std.specs.Map.Iter.{deref};
+ghost use Rattle.lp_repr.specs.FreeVariables.{free_in_type};
+ghost use Rattle.lp_repr.specs.TypeTrees.{clause_tree, nominal_tree, type_tree};
+ghost use Rattle.lp_parts.specs.MachineParameters.{distinct, field_tree, fields_from, if_id, if_lifetime, lifetimes_first, lifetimes_from, machine_clauses, machine_fields, machine_parameters, outlived, outlived_from, outlives, parameter_tree, with_parameter};
+
+use crate::filter::{clause_copy, has_parameter, parameter_copy};
+use crate::named::{named_type, new_lifetime};
+use crate::referents::all_referents;
 use lp_repr::parse_tree::{Path, TypeBound, TypeParameter};
 use lp_repr::repr::{Grammar, NominalTypeRepr, Parameter, TypeRepr, WhereClause};
 use lp_repr::{FreeVariables, Items, Text};
@@ -16,204 +26,247 @@ pub struct MachineParameters {
 }
 
 impl MachineParameters {
-    pub fn new(alloc: Global, grammar: &Grammar) -> Result<MachineParameters, AllocError> {
-        let mut naming = Naming {
-            prefix: grammar.prefix.as_str(),
-            declared: grammar.type_parameters.as_slice(),
-            type_parameters: grammar.type_parameters.0.clone()?,
-            where_clauses: grammar.where_clauses.0.clone()?,
-        };
-        let mut fields = Vec::new(alloc);
-        for parameter in grammar.parameters.as_slice() {
-            let name = parameter.name.clone()?;
-            let ty = named_type(alloc, &mut naming, &parameter.ty)?;
-            fields.push(Parameter { name, ty })?;
-        }
-        let Naming {
-            prefix: _,
-            declared: _,
-            type_parameters,
-            where_clauses,
-        } = naming;
+    #[tactic(auto, unfolding(crate::specs::MachineParameters::machine_parameters, crate::specs::MachineParameters::machine_fields, crate::specs::MachineParameters::machine_clauses))]
+    pub fn new(alloc: Global, grammar: &Grammar) -> Result<MachineParameters, AllocError>
+        ensures type_parameters { IfOk result (λ m. m.type_parameters ≡ machine_parameters grammar.now) }
+        ensures fields { IfOk result (λ m. map field_tree m.fields ≡ machine_fields grammar.now) }
+        ensures where_clauses { IfOk result (λ m. map clause_tree m.where_clauses ≡ machine_clauses grammar.now) }
+    {
+        let prefix = grammar.prefix.as_str();
+        let declared = grammar.type_parameters.as_slice();
+        let parameters = grammar.parameters.as_slice();
+        let first = declared.len();
+        let referents = all_referents(alloc, parameters)?;
+        let mut generics = declared_copies(alloc, declared)?;
+        push_lifetimes(alloc, &mut generics, prefix, first, referents.as_slice())?;
+        let fields = named_fields(alloc, prefix, first, parameters)?;
+        let mut clauses = stated_copies(alloc, grammar.where_clauses.as_slice())?;
+        push_outlived(
+            alloc,
+            &mut clauses,
+            declared,
+            prefix,
+            first,
+            referents.as_slice(),
+        )?;
         Ok(MachineParameters {
-            type_parameters: Items(lifetimes_first(alloc, type_parameters)?),
+            type_parameters: Items(lifetimes_first(alloc, generics)?),
             fields: Items(fields),
-            where_clauses: Items(where_clauses),
+            where_clauses: Items(clauses),
         })
     }
 }
 
-/// What is known while references get their lifetimes.
-#[derive(Drop)]
-struct Naming<'g> {
-    prefix: &'g str,
-    declared: &'g [TypeParameter],
-    type_parameters: Vec<TypeParameter>,
-    where_clauses: Vec<WhereClause>,
+/// Copies of the declared type parameters.
+fn declared_copies(
+    alloc: Global,
+    parameters: &[TypeParameter],
+) -> Result<Vec<TypeParameter>, AllocError>
+    ensures { IfOk result (λ v. v.items ≡ parameters.now) }
+{
+    let mut copies = Vec::new(alloc);
+    for parameter in parameters {
+        copies.push(parameter_copy(parameter)?)?;
+    }
+    Ok(copies)
 }
 
-/// A new lifetime, which each variable of the referent outlives.
-fn new_lifetime(
-    alloc: Global,
-    naming: &mut Naming<'_>,
-    referent: &TypeRepr,
-) -> Result<String, AllocError> {
-    let prefix = naming.prefix;
-    let number = naming.type_parameters.len();
-    let lifetime = format!(in alloc; "'{prefix}{number}")?;
-    naming
-        .type_parameters
-        .push(TypeParameter::Lifetime(Text(lifetime.clone()?)))?;
-    let mut seen: Vec<TypeParameter> = Vec::new(alloc);
-    for variable in referent.free_variables(alloc, naming.declared)? {
-        if !seen.contains(&variable) {
-            let subject = type_of_parameter(alloc, &variable)?;
-            let bound = TypeBound::Lifetime(Text(lifetime.clone()?));
-            naming
-                .where_clauses
-                .push(WhereClause::Bound { subject, bound })?;
-            seen.push(variable)?;
-        }
+/// Copies of the stated clauses.
+fn stated_copies(alloc: Global, clauses: &[WhereClause]) -> Result<Vec<WhereClause>, AllocError>
+    ensures { IfOk result (λ v. map clause_tree v.items ≡ map clause_tree clauses.now) }
+{
+    let mut copies = Vec::new(alloc);
+    for clause in clauses {
+        copies.push(clause_copy(clause)?)?;
     }
-    Ok(lifetime)
+    Ok(copies)
+}
+
+/// Adds the new lifetimes, one for each referent.
+fn push_lifetimes(
+    alloc: Global,
+    generics: &mut Vec<TypeParameter>,
+    prefix: &str,
+    first: usize,
+    referents: &[&TypeRepr],
+) -> Result<(), AllocError>
+    ensures { OnOk result (generics.new.items ≡ generics.old.items ++ lifetimes_from prefix.now first (map deref referents.now)) }
+{
+    let mut number = first;
+    for _referent in referents {
+        let lifetime = Text(new_lifetime(alloc, prefix, number)?);
+        generics.push(TypeParameter::Lifetime(lifetime))?;
+        number = number.checked_add(1).ok_or(AllocError)?;
+    }
+    Ok(())
+}
+
+/// The fields, whose references have lifetimes from this number on.
+fn named_fields(
+    alloc: Global,
+    prefix: &str,
+    first: usize,
+    parameters: &[Parameter],
+) -> Result<Vec<Parameter>, AllocError>
+    ensures { IfOk result (λ v. map field_tree v.items ≡ fields_from prefix.now first parameters.now) }
+{
+    let mut next = first;
+    let mut fields = Vec::new(alloc);
+    for parameter in parameters {
+        let name = parameter.name.clone()?;
+        let ty = named_type(alloc, prefix, &mut next, &parameter.ty)?;
+        fields.push(Parameter { name, ty })?;
+    }
+    Ok(fields)
+}
+
+/// Adds the clauses of the new lifetimes: the variables of each referent outlive its lifetime.
+fn push_outlived(
+    alloc: Global,
+    clauses: &mut Vec<WhereClause>,
+    declared: &[TypeParameter],
+    prefix: &str,
+    first: usize,
+    referents: &[&TypeRepr],
+) -> Result<(), AllocError>
+    ensures { OnOk result (map clause_tree clauses.new.items ≡ map clause_tree clauses.old.items ++ outlived_from declared.now prefix.now first (map deref referents.now)) }
+{
+    let mut number = first;
+    for referent in referents {
+        let lifetime = Text(new_lifetime(alloc, prefix, number)?);
+        push_outlives(alloc, clauses, declared, &lifetime, *referent)?;
+        number = number.checked_add(1).ok_or(AllocError)?;
+    }
+    Ok(())
+}
+
+/// Adds the clauses of one lifetime.
+fn push_outlives(
+    alloc: Global,
+    clauses: &mut Vec<WhereClause>,
+    declared: &[TypeParameter],
+    lifetime: &Text,
+    referent: &TypeRepr,
+) -> Result<(), AllocError>
+    ensures { OnOk result (map clause_tree clauses.new.items ≡ map clause_tree clauses.old.items ++ outlived declared.now lifetime.now referent.now) }
+{
+    let variables = distinct(alloc, referent.free_variables(alloc, declared)?)?;
+    push_clauses(alloc, clauses, lifetime, variables.as_slice())
+}
+
+/// Adds a clause for each variable.
+fn push_clauses(
+    alloc: Global,
+    clauses: &mut Vec<WhereClause>,
+    lifetime: &Text,
+    variables: &[TypeParameter],
+) -> Result<(), AllocError>
+    ensures { OnOk result (map clause_tree clauses.new.items ≡ map clause_tree clauses.old.items ++ map (outlives lifetime.now) variables.now) }
+{
+    for variable in variables {
+        clauses.push(outlives(alloc, lifetime, variable)?)?;
+    }
+    Ok(())
+}
+
+/// The clause that a parameter outlives a lifetime.
+fn outlives(
+    alloc: Global,
+    lifetime: &Text,
+    parameter: &TypeParameter,
+) -> Result<WhereClause, AllocError>
+    ensures { IfOk result (λ c. clause_tree c ≡ outlives lifetime.now parameter.now) }
+{
+    let subject = parameter_type(alloc, parameter)?;
+    let bound = TypeBound::Lifetime(lifetime.clone()?);
+    Ok(WhereClause::Bound { subject, bound })
 }
 
 /// A type parameter as a type.
-fn type_of_parameter(alloc: Global, parameter: &TypeParameter) -> Result<TypeRepr, AllocError> {
+fn parameter_type(alloc: Global, parameter: &TypeParameter) -> Result<TypeRepr, AllocError>
+    ensures { IfOk result (λ t. type_tree t ≡ parameter_tree parameter.now) }
+{
     match parameter {
         TypeParameter::Lifetime(name) => Ok(TypeRepr::Lifetime(name.0.clone()?)),
-        TypeParameter::Id(name) => {
-            let ids = Items(vec![in alloc; name.clone()?]?);
-            let path = Path {
-                absolute: false,
-                ids,
-            };
-            let types = Vec::new(alloc);
-            Ok(TypeRepr::Nominal(NominalTypeRepr { path, types }))
-        }
+        TypeParameter::Id(name) => Ok(TypeRepr::Nominal(type_of_name(alloc, name)?)),
     }
 }
 
-/// The type with a lifetime at each reference; outer references get theirs first.
-#[cycle(named_type)]
-fn named_type(
-    alloc: Global,
-    naming: &mut Naming<'_>,
-    ty: &TypeRepr,
-) -> Result<TypeRepr, AllocError> {
-    match ty {
-        TypeRepr::Tuple(types) => Ok(TypeRepr::Tuple(named_types(alloc, naming, types)?)),
-        TypeRepr::Slice(element) => Ok(TypeRepr::Slice(named_box(alloc, naming, element)?)),
-        TypeRepr::Nominal(nominal) => {
-            Ok(TypeRepr::Nominal(named_nominal(alloc, naming, nominal)?))
-        }
-        TypeRepr::TraitObject(nominal) => {
-            Ok(TypeRepr::TraitObject(named_nominal(alloc, naming, nominal)?))
-        }
-        TypeRepr::Associated { type_parameter, id } => Ok(TypeRepr::Associated {
-            type_parameter: type_parameter.clone()?,
-            id: id.clone()?,
-        }),
-        TypeRepr::Lifetime(name) => Ok(TypeRepr::Lifetime(name.clone()?)),
-        TypeRepr::Ref {
-            lifetime,
-            mutable,
-            referent,
-        } => {
-            let lifetime = Some(lifetime_of(alloc, naming, lifetime, referent)?);
-            let mutable = *mutable;
-            let referent = named_box(alloc, naming, referent)?;
-            Ok(TypeRepr::Ref {
-                lifetime,
-                mutable,
-                referent,
-            })
-        }
-        TypeRepr::Fn {
-            binder,
-            path,
-            parameters,
-            ret,
-        } => {
-            let binder = binder.clone()?;
-            let path = path.clone()?;
-            let parameters = named_types(alloc, naming, parameters)?;
-            let ret = match ret {
-                None => None,
-                Some(ret) => Some(named_box(alloc, naming, ret)?),
-            };
-            Ok(TypeRepr::Fn {
-                binder,
-                path,
-                parameters,
-                ret,
-            })
-        }
-    }
-}
-
-/// The lifetime that a reference has, or a new one.
-fn lifetime_of(
-    alloc: Global,
-    naming: &mut Naming<'_>,
-    lifetime: &Option<String>,
-    referent: &TypeRepr,
-) -> Result<String, AllocError> {
-    match lifetime {
-        Some(name) => name.clone(),
-        None => new_lifetime(alloc, naming, referent),
-    }
-}
-
-#[cycle(named_type)]
-fn named_box(
-    alloc: Global,
-    naming: &mut Naming<'_>,
-    ty: &Box<TypeRepr>,
-) -> Result<Box<TypeRepr>, AllocError> {
-    let ty = named_type(alloc, naming, ty)?;
-    Ok(Box::new(alloc, ty)?)
-}
-
-#[cycle(named_type)]
-fn named_nominal(
-    alloc: Global,
-    naming: &mut Naming<'_>,
-    nominal: &NominalTypeRepr,
-) -> Result<NominalTypeRepr, AllocError> {
-    let path = nominal.path.clone()?;
-    let types = named_types(alloc, naming, &nominal.types)?;
+/// The type of a name, without arguments.
+fn type_of_name(alloc: Global, name: &Text) -> Result<NominalTypeRepr, AllocError>
+    ensures { IfOk result (λ n. nominal_tree n ≡ parameter_tree (TypeParameter.Id name.now)) }
+{
+    let path = path_of_name(alloc, name)?;
+    let types = Vec::new(alloc);
     Ok(NominalTypeRepr { path, types })
 }
 
-#[cycle(named_type)]
-fn named_types(
-    alloc: Global,
-    naming: &mut Naming<'_>,
-    types: &Vec<TypeRepr>,
-) -> Result<Vec<TypeRepr>, AllocError> {
-    let mut named = Vec::new(alloc);
-    for ty in types {
-        named.push(named_type(alloc, naming, ty)?)?;
+/// The path of one name.
+fn path_of_name(alloc: Global, name: &Text) -> Result<Path, AllocError>
+    ensures absolute { IfOk result (λ p. p.absolute ≡ false) }
+    ensures ids { IfOk result (λ p. p.ids ≡ name.now ∷ []) }
+{
+    let ids = Items(vec![in alloc; name.clone()?]?);
+    Ok(Path {
+        absolute: false,
+        ids,
+    })
+}
+
+/// The parameters, each once, in the order of their first places.
+fn distinct(alloc: Global, parameters: Vec<TypeParameter>) -> Result<Vec<TypeParameter>, AllocError>
+    ensures { IfOk result (λ v. v.items ≡ distinct parameters.items) }
+{
+    let mut seen = Vec::new(alloc);
+    for parameter in parameters {
+        push_new(&mut seen, parameter)?;
     }
-    Ok(named)
+    Ok(seen)
+}
+
+/// Adds a parameter that isn't there.
+fn push_new(seen: &mut Vec<TypeParameter>, parameter: TypeParameter) -> Result<(), AllocError>
+    ensures { OnOk result (seen.new.items ≡ with_parameter seen.old.items parameter) }
+{
+    if !has_parameter(seen.as_slice(), &parameter) {
+        seen.push(parameter)?;
+    }
+    Ok(())
 }
 
 /// The lifetimes, and then the others, each in their order.
 fn lifetimes_first(
     alloc: Global,
     parameters: Vec<TypeParameter>,
-) -> Result<Vec<TypeParameter>, AllocError> {
+) -> Result<Vec<TypeParameter>, AllocError>
+    ensures { IfOk result (λ v. v.items ≡ lifetimes_first parameters.items) }
+{
     let mut lifetimes = Vec::new(alloc);
     let mut ids = Vec::new(alloc);
     for parameter in parameters {
-        match parameter {
-            TypeParameter::Lifetime(_) => lifetimes.push(parameter)?,
-            TypeParameter::Id(_) => ids.push(parameter)?,
+        push_by_kind(&mut lifetimes, &mut ids, parameter)?;
+    }
+    lifetimes.append(&mut ids)?;
+    Ok(lifetimes)
+}
+
+/// Adds a parameter to the lifetimes or to the others.
+fn push_by_kind(
+    lifetimes: &mut Vec<TypeParameter>,
+    ids: &mut Vec<TypeParameter>,
+    parameter: TypeParameter,
+) -> Result<(), AllocError>
+    ensures lifetimes { OnOk result (lifetimes.new.items ≡ lifetimes.old.items ++ if_lifetime parameter) }
+    ensures ids { OnOk result (ids.new.items ≡ ids.old.items ++ if_id parameter) }
+{
+    match parameter {
+        TypeParameter::Lifetime(name) => {
+            lifetimes.push(TypeParameter::Lifetime(name))?;
+            Ok(())
+        }
+        TypeParameter::Id(name) => {
+            ids.push(TypeParameter::Id(name))?;
+            Ok(())
         }
     }
-    for id in ids {
-        lifetimes.push(id)?;
-    }
-    Ok(lifetimes)
 }

@@ -1,5 +1,5 @@
 -- The form at a place of parts, where the first of them is off.
-use Rattle.std.proofs.Common.{◌≡◌, ℕ, ◌-◌, ◌<◌, zero, suc, List, ◌∷◌, Option, Some, None, refl, ap, arith}
+use Rattle.std.proofs.Common.{◌≡◌, ℕ, ◌-◌, ◌<◌, zero, suc, List, ◌∷◌, Some, None, refl, ap, arith}
 use Rattle.std.specs.Prelude.{slice_get}
 use Rattle.lp_form.specs.Forms.{form_of}
 use Rattle.lp_form.specs.declared.kind.FormKind.{FormKind}

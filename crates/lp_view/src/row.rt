@@ -1,9 +1,11 @@
 //! Reading the rows of a form.
 
-ghost use Rattle.std.specs.Prelude.{◌≡◌, ◌<◌, ◌≤◌, length};
+ghost use Rattle.std.specs.Prelude.{◌≡◌, ◌<◌, ◌≤◌, [], get_or, length, map};
 ghost use Rattle.std.specs.Iterator.{at_most};
+ghost use Rattle.lp_tree.specs.ProgramTree.{item};
+ghost use Rattle.lp_view.specs.PartLists.{hole_of};
 
-use crate::walk::{FormRef, after_first, child, end_of, place_of};
+use crate::walk::{FormRef, after_first, child, end_of, first, place_of};
 use lp_form::Part;
 use lp_tree::tree::{Entry, Reduced};
 
@@ -123,14 +125,18 @@ impl<'p, 't> Iterator for Rows<'p, 't> {
 }
 
 /// What a hole of the first part holds; the empty text where there is no such hole.
-pub(crate) fn text<'p, 't>(entries: &'p [Entry<'t>], hole: usize) -> &'p str {
-    match entries.first() {
+pub(crate) fn text<'p, 't>(entries: &'p [Entry<'t>], hole: usize) -> &'p str
+    ensures { result.now ≡ hole_of hole (map item entries.now) }
+{
+    match first(entries) {
         Some(entry) => hole_text(entry, hole),
         None => "",
     }
 }
 
-fn hole_text<'p, 't>(entry: &'p Entry<'t>, hole: usize) -> &'p str {
+fn hole_text<'p, 't>(entry: &'p Entry<'t>, hole: usize) -> &'p str
+    ensures { result.now ≡ get_or entry.now.holes.items hole [] }
+{
     if hole < entry.holes.len() {
         entry.holes[hole].as_str()
     } else {

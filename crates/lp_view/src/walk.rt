@@ -1,8 +1,11 @@
 //! Walking over the forms of a program.
 
-ghost use Rattle.std.specs.Prelude.{◌≡◌, ◌+◌, ◌<◌, ◌≤◌, get_or, length, min};
+ghost use Rattle.std.specs.Prelude.{◌≡◌, ◌+◌, ◌<◌, ◌≤◌, drop, get_or, length, map, min, slice_get};
+ghost use Rattle.std.specs.Option.{option_copied, option_map};
 ghost use Rattle.lp_tree.specs.declared.tree.Entry.{Entry};
 ghost use Rattle.std.specs.Iterator.{at_most};
+ghost use Rattle.lp_tree.specs.ProgramTree.{item, program_items};
+ghost use Rattle.lp_view.specs.PartLists.{form_listed};
 
 use crate::form_view::FormView;
 use crate::made::made_view;
@@ -41,14 +44,25 @@ impl<'p, 't> FormRef<'p, 't> {
 }
 
 /// The form of the whole text of a program.
-pub fn root<'p, 't>(program: &'p Program<'t>) -> FormRef<'p, 't> {
+pub fn root<'p, 't>(program: &'p Program<'t>) -> FormRef<'p, 't>
+    ensures { form_listed result ≡ program_items program.now }
+{
     FormRef {
         entries: program.entries.as_slice(),
     }
 }
 
+/// The first, if there is one.
+pub(crate) fn first<'p, 't>(entries: &'p [Entry<'t>]) -> Option<&'p Entry<'t>>
+    ensures { option_map item (option_copied result) ≡ slice_get (map item entries.now) 0 }
+{
+    entries.first()
+}
+
 /// All but the first.
-pub(crate) fn after_first<'p, 't>(entries: &'p [Entry<'t>]) -> &'p [Entry<'t>] {
+pub(crate) fn after_first<'p, 't>(entries: &'p [Entry<'t>]) -> &'p [Entry<'t>]
+    ensures { result.now ≡ drop 1 entries.now }
+{
     if entries.is_empty() {
         entries
     } else {

@@ -1,0 +1,7 @@
+-- The clauses so far.
+use Rattle.std.proofs.Common.{◌≡◌, map, take}
+use Rattle.lp_repr.specs.TypeTrees.{clause_tree}
+use Rattle.lp_parts.proofs.machine_parameters.stated_copies.Given as goal
+
+abbrev pub invariant-loop-clause : goal.invariant-loop-clause
+invariant-loop-clause l = map clause_tree l.copies.items ≡ map clause_tree (take l.clause-index l.clauses)
