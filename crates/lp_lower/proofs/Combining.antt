@@ -115,7 +115,7 @@ digits m n count left e h =
 pub choices_from : {X : Type 0} (xss : List (List X)) (i : ℕ) (o : List X) → i < length xss → get_or xss i o ≡ o → length (choices (drop i xss)) ≡ length o * length (choices (drop (i + 1) xss))
 choices_from xss i o h at = ap (λ l. length (choices l)) (drop_more xss i o h ∙ ap (λ y. y ∷ drop (i + 1) xss) at) ∙ length-choices o (drop (i + 1) xss)
 
-some_at : {X : Type 0} (xs : List X) (i : ℕ) → i < length xs → (x : X) × (slice_get xs i ≡ Some x)
+pub some_at : {X : Type 0} (xs : List X) (i : ℕ) → i < length xs → (x : X) × (slice_get xs i ≡ Some x)
 some_at [] i h = absurd (omega arith)
 some_at (x ∷ xs) zero h = (x, refl)
 some_at (x ∷ xs) (suc i) h = some_at xs i (omega arith)

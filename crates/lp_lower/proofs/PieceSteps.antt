@@ -13,7 +13,7 @@ use Rattle.lp_lower.specs.declared.combine.Combination.{Combination}
 use Rattle.lp_lower.specs.declared.combine.Expanded.{Expanded}
 use Rattle.lp_lower.specs.declared.combine.Part.{Part}
 use Rattle.lp_lower.specs.declared.combine.Part.TheVariants as part
-use Rattle.lp_lower.proofs.Combining.{combination, or_nothing}
+use Rattle.lp_lower.proofs.Combining.{combination, or_nothing, some_at}
 
 -- as many pieces as expanded alternatives
 pub length-options : (p : Part) (es : Bor (List Expanded)) → p ≡ part.Options es → length (pieces_of p) ≡ length es.now
@@ -34,15 +34,18 @@ got_at (y ∷ xs) (suc n) x h at = got_at xs n x (omega arith) at
 pub itself_at : (p : Part) (s : Symbol) (n : ℕ) (x : Piece) → p ≡ part.Itself s → slice_get (pieces_of p) n ≡ Some x → itself s ≡ x
 itself_at p s n x e h = only_at (itself s) n x (ap (λ (q : Part). slice_get (pieces_of q) n) (sym e) ∙ h)
 
-same_piece : (p q : Piece) → Some p ≡ Some q → p ≡ q
-same_piece p q e = cc
+-- and no other
+pub option_at : (es : List Expanded) (n : ℕ) (d x : Expanded) → n < length es → get_or es n d ≡ d → slice_get es n ≡ Some x → d ≡ x
+option_at es n d x less at h = let e : Some d ≡ Some x = sym (got_at es n d less at) ∙ h in cc
 
 -- the piece of a chosen expanded alternative
-pub chosen_at : (p : Part) (es : Bor (List Expanded)) (n : ℕ) (d : Expanded) (x : Piece) → p ≡ part.Options es → n < length es.now → get_or es.now n d ≡ d → slice_get (pieces_of p) n ≡ Some x → chosen d ≡ x
-chosen_at p es n d x e less at h =
-    let found : slice_get (map chosen es.now) n ≡ Some (chosen d) = slice_get-map chosen es.now n ∙ ap (option_map chosen) (got_at es.now n d less at) in
+pub chosen_at : (p : Part) (es : Bor (List Expanded)) (n : ℕ) (x : Piece) → p ≡ part.Options es → n < length es.now → slice_get (pieces_of p) n ≡ Some x → (d : Expanded) × (slice_get es.now n ≡ Some d) × (chosen d ≡ x)
+chosen_at p es n x e less h =
+    let found = some_at es.now n less in
+    let made : slice_get (map chosen es.now) n ≡ Some (chosen found.0) = slice_get-map chosen es.now n ∙ ap (option_map chosen) found.1 in
     let told : slice_get (map chosen es.now) n ≡ Some x = ap (λ (q : Part). slice_get (pieces_of q) n) (sym e) ∙ h in
-    same_piece (chosen d) x (sym found ∙ told)
+    let same : chosen found.0 ≡ x = let s : Some (chosen found.0) ≡ Some x = sym made ∙ told in cc in
+    (found.0, found.1, same)
 
 -- a symbol is added
 pub symbol_added : (c : Combination) (s a b : Symbol) (is : List InlinedSymbol) (ss : List Symbol) → a ≡ s → b ≡ s → is ≡ c.inlined ++ inlined.Original a ∷ [] → ss ≡ c.symbols ++ b ∷ [] → combination is c.fallible ss ≡ with_piece c (itself s)

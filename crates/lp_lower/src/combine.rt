@@ -4,6 +4,7 @@
 ghost use Rattle.std.specs.Prelude.{◌≡◌, ◌<◌, ◌++◌, ◌||◌, IfOk, OnOk, Some, length, map, slice_get};
 ghost use Rattle.lp_lower.specs.Choices.{choices};
 ghost use Rattle.lp_lower.specs.Extents.{capped};
+ghost use Rattle.lp_lower.specs.declared.combine.Expanded.{Expanded};
 ghost use Rattle.lp_lower.specs.Pieces.{Piece, itself, chosen, pieces_of, combination_of, with_piece};
 
 use crate::copies::{copy_symbol, copy_symbols};
@@ -137,10 +138,24 @@ impl Combination {
                 Ok(())
             }
             Part::Options(options) => {
-                self.add_expanded(alloc, &options[number])?;
+                self.add_option(alloc, options, number)?;
                 Ok(())
             }
         }
+    }
+
+    /// Adds the expanded alternative of this number.
+    fn add_option(
+        &mut self,
+        alloc: Global,
+        options: &[Expanded],
+        number: usize,
+    ) -> Result<(), AllocError>
+        requires { number < length options.now }
+        ensures { OnOk result ((expanded : Expanded) → slice_get options.now number ≡ Some expanded → self.new ≡ with_piece self.old (chosen expanded)) }
+    {
+        self.add_expanded(alloc, &options[number])?;
+        Ok(())
     }
 
     /// Adds a symbol that stands for itself.

@@ -1,6 +1,6 @@
 //! What the lowered grammar knows by name: public names, terminals with their patterns, and types.
 
-ghost use Rattle.std.specs.Prelude.{◌≡◌, ◌++◌, IfOk, OnOk, [], if◌then◌else◌, map, not};
+ghost use Rattle.std.specs.Prelude.{◌≡◌, ◌++◌, IfOk, OnOk, [], ◌∷◌, if◌then◌else◌, map, not};
 ghost use Rattle.std.specs.BTreeMap.{insert_entry};
 ghost use Rattle.lp_repr.specs.NameOrder.{nonterminal_cmp, terminal_cmp};
 ghost use Rattle.lp_repr.specs.TypeTrees.{type_tree};
@@ -62,10 +62,18 @@ pub fn terminal_names(
     ensures { IfOk result (λ t. t ≡ terminal_names plain.now) }
 {
     let mut names = declared_names(alloc, plain.conversions.as_slice())?;
-    if frame.uses_error {
-        push(&mut names, TerminalString::Error)?;
-    }
+    push_error(frame.uses_error, &mut names)?;
     Ok(names)
+}
+
+/// Adds the error terminal where it is used.
+fn push_error(used: bool, names: &mut Items<TerminalString>) -> Result<(), AllocError>
+    ensures { OnOk result (names.new ≡ names.old ++ (if used then Error ∷ [] else [])) }
+{
+    if used {
+        push(names, TerminalString::Error)?;
+    }
+    Ok(())
 }
 
 /// The names of these terminals.

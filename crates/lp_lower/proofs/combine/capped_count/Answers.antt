@@ -20,7 +20,7 @@ loop-place-preserved c =
     let part = c.index-parts-place.result in
     let less : i < length parts = omega arith in
     let at : get_or (map pieces_of parts) i (pieces_of part) ≡ pieces_of part = get_or-map pieces_of parts i part ∙ ap pieces_of (sym c.index-parts-place.is) in
-    (omega arith, count_before (map pieces_of parts) i c.loop-place.place c.piece_count.result c.loop-place.count _ (2 ^ 64 - 1) (pieces_of part) (omega arith) (omega (arith, length-map parts pieces_of)) at c.piece_count.ensures c.loop-place.invariant.1 c.saturating_mul.ensures)
+    (omega arith, count_before (map pieces_of parts) i c.loop-place.place c.piece_count.result c.loop-place.count _ (2 ^ 64 - 1) (pieces_of part) (omega arith) (omega (arith, length-map parts pieces_of)) at c.piece_count.ensures c.loop-place.invariant.1 c.saturating_mul-count.ensures)
 
 pub returns : goal.returns
 returns c =

@@ -17,7 +17,7 @@ nonzero_div-count c =
     let less : i < length xss = omega (arith, length-map c.args.parts.now pieces_of) in
     let at : get_or xss i (pieces_of part) ≡ pieces_of part = get_or-map pieces_of c.args.parts.now i part ∙ ap pieces_of (sym c.part-item.is) in
     let two = so_far_digits c.args.fallible xss c.args.place i c.loop-part.count c.loop-part.left c.loop-part.combination (pieces_of part) less at c.loop-part.invariant in
-    omega (arith, two.some, c.piece_count.ensures)
+    omega (arith, two.some, c.piece_count-count.ensures)
 
 pub nonzero_div-number : goal.nonzero_div-number
 nonzero_div-number c =
@@ -27,7 +27,7 @@ nonzero_div-number c =
     let less : i < length xss = omega (arith, length-map c.args.parts.now pieces_of) in
     let at : get_or xss i (pieces_of part) ≡ pieces_of part = get_or-map pieces_of c.args.parts.now i part ∙ ap pieces_of (sym c.part-item.is) in
     let two = so_far_digits c.args.fallible xss c.args.place i c.loop-part.count c.loop-part.left c.loop-part.combination (pieces_of part) less at c.loop-part.invariant in
-    let rest : c.loop-part.count / c.piece_count.result ≡ length (choices (drop (i + 1) xss)) = ap (λ k. c.loop-part.count / k) c.piece_count.ensures ∙ two.rest in
+    let rest : c.loop-part.count / c.piece_count-count.result ≡ length (choices (drop (i + 1) xss)) = ap (λ k. c.loop-part.count / k) c.piece_count-count.ensures ∙ two.rest in
     omega (arith, two.others, rest)
 
 pub add_piece-requires : goal.add_piece-requires
@@ -38,7 +38,7 @@ add_piece-requires c =
     let less : i < length xss = omega (arith, length-map c.args.parts.now pieces_of) in
     let at : get_or xss i (pieces_of part) ≡ pieces_of part = get_or-map pieces_of c.args.parts.now i part ∙ ap pieces_of (sym c.part-item.is) in
     let two = so_far_digits c.args.fallible xss c.args.place i c.loop-part.count c.loop-part.left c.loop-part.combination (pieces_of part) less at c.loop-part.invariant in
-    let rest : c.loop-part.count / c.piece_count.result ≡ length (choices (drop (i + 1) xss)) = ap (λ k. c.loop-part.count / k) c.piece_count.ensures ∙ two.rest in
+    let rest : c.loop-part.count / c.piece_count-count.result ≡ length (choices (drop (i + 1) xss)) = ap (λ k. c.loop-part.count / k) c.piece_count-count.ensures ∙ two.rest in
     let P : ℕ → Type 0 = λ n. c.loop-part.left / n < length (pieces_of part) in
     subst P (sym rest) two.digit
 
@@ -50,7 +50,7 @@ nonzero_rem-left c =
     let less : i < length xss = omega (arith, length-map c.args.parts.now pieces_of) in
     let at : get_or xss i (pieces_of part) ≡ pieces_of part = get_or-map pieces_of c.args.parts.now i part ∙ ap pieces_of (sym c.part-item.is) in
     let two = so_far_digits c.args.fallible xss c.args.place i c.loop-part.count c.loop-part.left c.loop-part.combination (pieces_of part) less at c.loop-part.invariant in
-    let rest : c.loop-part.count / c.piece_count.result ≡ length (choices (drop (i + 1) xss)) = ap (λ k. c.loop-part.count / k) c.piece_count.ensures ∙ two.rest in
+    let rest : c.loop-part.count / c.piece_count-count.result ≡ length (choices (drop (i + 1) xss)) = ap (λ k. c.loop-part.count / k) c.piece_count-count.ensures ∙ two.rest in
     omega (arith, two.others, rest)
 
 pub loop-part-preserved : goal.loop-part-preserved
@@ -60,8 +60,8 @@ loop-part-preserved c =
     let part = c.part-item.result in
     let less : i < length xss = omega (arith, length-map c.args.parts.now pieces_of) in
     let at : get_or xss i (pieces_of part) ≡ pieces_of part = get_or-map pieces_of c.args.parts.now i part ∙ ap pieces_of (sym c.part-item.is) in
-    let next = c.loop-part.count / c.piece_count.result in
-    so_far_more c.args.fallible xss c.args.place i c.loop-part.count c.loop-part.left c.loop-part.combination (pieces_of part) less at c.loop-part.invariant c.piece_count.result next (c.loop-part.left / next) (c.loop-part.left % next) c.add_piece.new.self c.piece_count.ensures refl refl refl (λ x at_x. c.in_ok-add_piece.ensures x at_x)
+    let next = c.loop-part.count / c.piece_count-count.result in
+    so_far_more c.args.fallible xss c.args.place i c.loop-part.count c.loop-part.left c.loop-part.combination (pieces_of part) less at c.loop-part.invariant c.piece_count-count.result next (c.loop-part.left / next) (c.loop-part.left % next) c.add_piece.new.self c.piece_count-count.ensures refl refl refl (λ x at_x. c.in_ok-add_piece.ensures x at_x)
 
 pub returns : goal.returns
 returns c = so_far_all c.args.fallible (map pieces_of c.args.parts.now) c.args.place c.loop-part.part-index c.loop-part.count c.loop-part.left c.loop-part.combination (omega (arith, length-map c.args.parts.now pieces_of)) c.loop-part.invariant
