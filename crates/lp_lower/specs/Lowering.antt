@@ -16,7 +16,6 @@ use Rattle.lp_lower.specs.Actions.{action_tree, actions_of}
 use Rattle.lp_lower.specs.Productions.{put_all, start_name, nonterminal_entries}
 use Rattle.lp_lower.specs.TypeOf.{holes_tree, recovery_tree}
 use Rattle.lp_lower.specs.declared.lowering.Kept.{Kept}
-use Rattle.lp_lower.specs.declared.lowering.Tables.{Tables}
 use Rattle.lp_lower.specs.declared.plain.PlainGrammar.{PlainGrammar}
 use Rattle.lp_lower.specs.declared.plain.PlainRule.{PlainRule}
 use Rattle.lp_lower.specs.declared.plain.PlainTerminal.{PlainTerminal}
@@ -85,21 +84,13 @@ pub record IsTyping (g : PlainGrammar) (t : Types) : Type 0 where
   pub terminals : map type_entry t.terminals.entries ≡ put_all terminal_cmp [] (terminal_types g)
   pub nonterminals : map type_entry t.nonterminals.entries ≡ put_all nonterminal_cmp [] (nonterminal_types g)
 
--- what is taken over as it is
+-- the lists that are taken over as they are
 pub record IsKept (g : PlainGrammar) (k : Kept) : Type 0 where
-  pub prefix : k.prefix ≡ g.prefix
   pub uses : k.uses ≡ g.uses
   pub type_parameters : k.type_parameters ≡ g.type_parameters
   pub parameters : map parameter_tree k.parameters ≡ map parameter_tree g.parameters
   pub where_clauses : map clause_tree k.where_clauses ≡ map clause_tree g.where_clauses
   pub attributes : k.attributes ≡ g.attributes
-
--- what is known by name, but for the nonterminals
-pub record AreTables (g : PlainGrammar) (t : Tables) : Type 0 where
-  pub start_nonterminals : t.start_nonterminals.entries ≡ put_all nonterminal_cmp [] (public_names g)
-  pub terminals : t.terminals.all ≡ terminal_names g
-  pub conversions : map pattern_entry t.conversions.entries ≡ put_all terminal_cmp [] (named_patterns g)
-  pub types : IsTyping g t.types
 
 pub record IsLowering (g : PlainGrammar) (l : Grammar) : Type 0 where
   pub prefix : l.prefix ≡ g.prefix

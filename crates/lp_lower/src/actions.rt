@@ -193,8 +193,7 @@ fn push_alternative(
     Ok(())
 }
 
-/// Adds the inlines of an alternative, whose user action has this number, where something in it is
-/// replaced.
+/// Adds the inlines over the user action of this number, where something is replaced.
 fn push_replaced(
     alloc: Global,
     names: &Names<'_>,

@@ -171,8 +171,7 @@ pub fn action_count(
     }
 }
 
-/// How many right sides an alternative has. More than a usize can count are more than memory can
-/// hold.
+/// How many right sides an alternative has. Memory holds no more than a usize can count.
 fn side_count(
     names: &Names<'_>,
     extents: &[Extent],
@@ -270,8 +269,7 @@ pub fn expanded_all(
     Ok(all)
 }
 
-/// What `@L`, `@R` and the inline rules are replaced by. Each inline rule uses only inline rules
-/// above it.
+/// What `@L`, `@R` and the inline rules, which use inline rules above them, are replaced by.
 pub fn make_sources(
     alloc: Global,
     names: &Names<'_>,
@@ -315,8 +313,7 @@ fn lookaround(alloc: Global, action: usize) -> Result<Items<Expanded>, AllocErro
     Ok(one)
 }
 
-/// The expanded alternatives of an inline rule, whose actions begin with this number; none of
-/// another rule.
+/// Those of an inline rule, whose actions begin with this number; none of another rule.
 fn inline_expanded(
     alloc: Global,
     names: &Names<'_>,

@@ -80,51 +80,23 @@ fn public_count(rules: &[PlainRule]) -> Result<usize, AllocError>
 fn uses_lookahead(symbols: &[&PlainSymbol]) -> bool
     ensures { result ≡ list_any (λ s. is_lookahead s.kind) (map deref symbols.now) }
 {
-    symbols.iter().any(|symbol| is_lookahead(&symbol.kind))
+    symbols
+        .iter()
+        .any(|symbol| matches!(&symbol.kind, PlainKind::Lookahead))
 }
 
 fn uses_lookbehind(symbols: &[&PlainSymbol]) -> bool
     ensures { result ≡ list_any (λ s. is_lookbehind s.kind) (map deref symbols.now) }
 {
-    symbols.iter().any(|symbol| is_lookbehind(&symbol.kind))
+    symbols
+        .iter()
+        .any(|symbol| matches!(&symbol.kind, PlainKind::Lookbehind))
 }
 
 fn uses_error(symbols: &[&PlainSymbol]) -> bool
     ensures { result ≡ list_any (λ s. is_error s.kind) (map deref symbols.now) }
 {
-    symbols.iter().any(|symbol| is_error(&symbol.kind))
-}
-
-fn is_lookahead(kind: &PlainKind) -> bool
-    ensures { result ≡ is_lookahead kind.now }
-{
-    match kind {
-        PlainKind::Lookahead => true,
-        PlainKind::Name(_) | PlainKind::Terminal(_) | PlainKind::Lookbehind | PlainKind::Error => {
-            false
-        }
-    }
-}
-
-fn is_lookbehind(kind: &PlainKind) -> bool
-    ensures { result ≡ is_lookbehind kind.now }
-{
-    match kind {
-        PlainKind::Lookbehind => true,
-        PlainKind::Name(_) | PlainKind::Terminal(_) | PlainKind::Lookahead | PlainKind::Error => {
-            false
-        }
-    }
-}
-
-fn is_error(kind: &PlainKind) -> bool
-    ensures { result ≡ is_error kind.now }
-{
-    match kind {
-        PlainKind::Error => true,
-        PlainKind::Name(_)
-        | PlainKind::Terminal(_)
-        | PlainKind::Lookahead
-        | PlainKind::Lookbehind => false,
-    }
+    symbols
+        .iter()
+        .any(|symbol| matches!(&symbol.kind, PlainKind::Error))
 }

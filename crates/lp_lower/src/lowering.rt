@@ -5,7 +5,7 @@ ghost use Rattle.lp_lower.specs.Causes.{IsAccepted, IsCause};
 ghost use Rattle.lp_lower.specs.Expansion.{all_sources};
 ghost use Rattle.lp_lower.specs.Extents.{extent_of};
 ghost use Rattle.lp_lower.specs.Framing.{frame_of};
-ghost use Rattle.lp_lower.specs.Lowering.{AreTables, IsKept, IsLowering, IsTyping};
+ghost use Rattle.lp_lower.specs.Lowering.{IsKept, IsLowering, IsTyping};
 ghost use Rattle.lp_lower.specs.RightSides.{inline_sides};
 
 use crate::actions::actions;
@@ -20,13 +20,9 @@ use crate::refusals::{duplicate, inline_order, unknown_name};
 use crate::symbols::all_symbols;
 use crate::tables::{nonterminal_types, patterns, public_names, terminal_names, terminal_types};
 use lp_repr::parse_tree::TypeParameter;
-use lp_repr::repr::{
-    Grammar, NonterminalString, Parameter, TerminalSet, TerminalString, TokenPattern, Types,
-    WhereClause,
-};
+use lp_repr::repr::{Grammar, Parameter, TerminalSet, Types, WhereClause};
 use lp_repr::text::{Items, Text};
 use std::alloc::{AllocError, Global};
-use std::collections::BTreeMap;
 
 /// Why a plain grammar isn't lowered. Places are bytes of its file.
 #[derive(Clone, Copy, Debug, PartialEq, Eq)]
@@ -112,46 +108,34 @@ fn assembled(
 {
     let plain = names.plain;
     let kept = keep(alloc, plain)?;
-    let tables = tabulate(alloc, plain, frame)?;
+    let start_nonterminals = public_names(alloc, plain)?;
+    let all = terminal_names(alloc, plain, frame)?;
+    let conversions = patterns(alloc, plain)?;
+    let types = types(alloc, plain, frame)?;
     let action_fn_defns = actions(alloc, names, extents, sources, frame)?;
     let nonterminals = nonterminals(alloc, names, extents, sources, frame)?;
-    let Kept {
-        prefix,
-        uses,
-        type_parameters,
-        parameters,
-        where_clauses,
-        attributes,
-    } = kept;
-    let Tables {
-        start_nonterminals,
-        terminals,
-        conversions,
-        types,
-    } = tables;
     Ok(Grammar {
-        prefix,
+        prefix: plain.prefix.clone()?,
         algorithm: plain.algorithm,
         uses_error_recovery: frame.uses_error,
         start_nonterminals,
-        uses,
-        type_parameters,
-        parameters,
-        where_clauses,
+        uses: kept.uses,
+        type_parameters: kept.type_parameters,
+        parameters: kept.parameters,
+        where_clauses: kept.where_clauses,
         intern_token: None,
         action_fn_defns,
-        terminals,
+        terminals: TerminalSet { all },
         nonterminals,
         conversions,
         types,
-        module_attributes: attributes,
+        module_attributes: kept.attributes,
     })
 }
 
-/// What a lowered grammar takes over as it is.
+/// The lists that a lowered grammar takes over as they are.
 #[derive(Drop)]
 struct Kept {
-    prefix: Text,
     uses: Items<Text>,
     type_parameters: Items<TypeParameter>,
     parameters: Items<Parameter>,
@@ -159,49 +143,21 @@ struct Kept {
     attributes: Items<Text>,
 }
 
-/// What is taken over.
+/// The lists that are taken over.
 fn keep(alloc: Global, plain: &PlainGrammar) -> Result<Kept, AllocError>
     ensures { IfOk result (IsKept plain.now) }
 {
-    let prefix = plain.prefix.clone()?;
     let uses = copy_texts(alloc, &plain.uses)?;
     let type_parameters = copy_type_parameters(alloc, &plain.type_parameters)?;
     let parameters = copy_parameters(alloc, &plain.parameters)?;
     let where_clauses = copy_clauses(alloc, &plain.where_clauses)?;
     let attributes = copy_texts(alloc, &plain.attributes)?;
     Ok(Kept {
-        prefix,
         uses,
         type_parameters,
         parameters,
         where_clauses,
         attributes,
-    })
-}
-
-/// What a lowered grammar knows by name, but for its nonterminals.
-#[derive(Drop)]
-struct Tables {
-    start_nonterminals: BTreeMap<NonterminalString, NonterminalString>,
-    terminals: TerminalSet,
-    conversions: BTreeMap<TerminalString, TokenPattern>,
-    types: Types,
-}
-
-/// What is known by name.
-fn tabulate(alloc: Global, plain: &PlainGrammar, frame: Frame) -> Result<Tables, AllocError>
-    requires { frame ≡ frame_of plain.now }
-    ensures { IfOk result (AreTables plain.now) }
-{
-    let start_nonterminals = public_names(alloc, plain)?;
-    let all = terminal_names(alloc, plain, frame)?;
-    let conversions = patterns(alloc, plain)?;
-    let types = types(alloc, plain, frame)?;
-    Ok(Tables {
-        start_nonterminals,
-        terminals: TerminalSet { all },
-        conversions,
-        types,
     })
 }
 

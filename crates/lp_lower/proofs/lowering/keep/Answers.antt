@@ -2,7 +2,6 @@ use Rattle.lp_lower.proofs.lowering.keep.Goals as goal
 
 pub returns : goal.returns
 returns c = record {
-  prefix = c.in_ok-prefix.ensures.cases;
   uses = c.in_ok-uses.ensures;
   type_parameters = c.in_ok-type_parameters.ensures;
   parameters = c.in_ok-parameters.ensures;

@@ -1,6 +1,6 @@
 use Rattle.std.proofs.Common.{◌≡◌, ◌<◌, length, refl, sym, ap, ◌∙◌, arith}
 use Rattle.std.proofs.Math.ListN.{get_or}
-use Rattle.std.proofs.Common.{◌+◌, cond}
+use Rattle.std.proofs.Common.{cond}
 use Rattle.lp_repr.specs.NameOrder.{nonterminal_cmp}
 use Rattle.lp_lower.specs.Productions.{start_entry, start_entries}
 use Rattle.lp_lower.specs.declared.plain.PlainRule.{PlainRule}
