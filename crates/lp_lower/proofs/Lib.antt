@@ -1,6 +1,17 @@
+pub mod ActionTrees
+pub mod Combining
 pub mod Counting
 pub mod FirstNumbers
+pub mod Framed
+pub mod Holes
 pub mod Leasts
+pub mod Made
+pub mod Numbered
 pub mod OrderSteps
+pub mod Pairs
+pub mod PieceSteps
+pub mod Putting
 pub mod RepeatSteps
 pub mod SideSteps
+pub mod Sourcing
+pub mod Walking

@@ -7,7 +7,8 @@ use Rattle.lp_lower.specs.Places.{least, least_of}
 use Rattle.lp_lower.proofs.Leasts.{least-none, least_before_if}
 use Rattle.lp_lower.specs.Repeats.{repeats_after, repeats}
 
-any_of_images : {X Y : Type 0} (f : X → Y) (p : Y → Bool) (q : X → Bool) → ((x : X) → p (f x) ≡ q x) → (xs : List X) → list_any p (map f xs) ≡ list_any q xs
+-- some image passes
+pub any_of_images : {X Y : Type 0} (f : X → Y) (p : Y → Bool) (q : X → Bool) → ((x : X) → p (f x) ≡ q x) → (xs : List X) → list_any p (map f xs) ≡ list_any q xs
 any_of_images f p q h [] = refl
 any_of_images f p q h (x ∷ xs) = rw (h x, any_of_images f p q h xs) refl
 

@@ -1,9 +1,17 @@
+pub mod ActionNumbers
+pub mod Actions
 pub mod Causes
 pub mod Choices
+pub mod Expansion
 pub mod Extents
+pub mod Framing
+pub mod Lowering
 pub mod Naming
+pub mod Pieces
 pub mod Places
+pub mod Productions
 pub mod Refusals
 pub mod Repeats
 pub mod RightSides
 pub mod Symbols
+pub mod TypeOf

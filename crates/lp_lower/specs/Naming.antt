@@ -1,5 +1,5 @@
 -- What the symbols of a plain grammar stand for.
-use Rattle.std.specs.Prelude.{ℕ, Bool, List, Option, None, Some}
+use Rattle.std.specs.Prelude.{ℕ, List, Option, None, Some}
 use Rattle.std.specs.List.{position_from}
 use Rattle.std.specs.Option.{option_map}
 use Rattle.std.specs.declared.cmp.Ordering.{Ordering}

@@ -1,5 +1,5 @@
 -- Why a plain grammar is not lowered, and where.
-use Rattle.std.specs.Prelude.{◌≡◌, ℕ, ◌+◌, nat_le, Bool, false, ◌&&◌, List, [], ◌∷◌, ◌++◌, map, filter, Option, None, Some, is_none, slice_get, if◌then◌else◌}
+use Rattle.std.specs.Prelude.{ℕ, ◌+◌, nat_le, Bool, false, ◌&&◌, List, [], ◌∷◌, ◌++◌, map, filter, Option, None, Some, is_none, slice_get, if◌then◌else◌}
 use Rattle.std.specs.Option.{option_map_or}
 use Rattle.lp_repr.specs.Names.{same_text, same_terminal}
 use Rattle.lp_repr.specs.Shown.{pattern_text}

@@ -1,8 +1,19 @@
 //! How alternatives are expanded, and how many actions they have.
 
+ghost use Rattle.std.specs.Prelude.{◌≡◌, ◌++◌, if◌then◌else◌, IfOk, OnOk, Some, [], ◌∷◌, length, map, slice_index_or};
+ghost use Rattle.lp_lower.specs.ActionNumbers.{action_count, actions_in, is_replaced, is_replaced_target};
+ghost use Rattle.lp_lower.specs.Expansion.{all_sources, combined, expanded, expanded_all, expanded_from, lookaround, options, rule_pieces, terminal_pieces};
+ghost use Rattle.lp_lower.specs.Extents.{extent_of};
+ghost use Rattle.lp_lower.specs.Framing.{frame_of};
+ghost use Rattle.lp_lower.specs.Naming.{target};
+ghost use Rattle.lp_lower.specs.Pieces.{pieces_of};
+ghost use Rattle.lp_lower.specs.RightSides.{inline_sides, right_sides};
+ghost use Rattle.lp_lower.specs.declared.names.Target.TheVariants.{Rule};
+
 use crate::combine::{Combination, Expanded, Part, combinations};
+use crate::copies::{copy_nonterminal, copy_terminal};
 use crate::extents::{Extent, alternative_extent};
-use crate::frame::{Frame, sum};
+use crate::frame::{Frame, after, sum};
 use crate::lists::{empty, push};
 use crate::names::{Names, Target};
 use crate::refusals::is_inline;
@@ -22,7 +33,9 @@ pub struct Sources {
 
 impl Sources {
     /// The expanded alternatives of the rule of this number.
-    fn inline(&self, number: usize) -> &[Expanded] {
+    fn inline(&self, number: usize) -> &[Expanded]
+        ensures { result.now ≡ slice_index_or self.now.inlines number [] }
+    {
         match self.inlines.as_slice().get(number) {
             None => &[],
             Some(expanded) => expanded.as_slice(),
@@ -35,11 +48,13 @@ fn part<'s>(
     names: &Names<'_>,
     sources: &'s Sources,
     target: Option<Target>,
-) -> Result<Part<'s>, AllocError> {
+) -> Result<Part<'s>, AllocError>
+    ensures { IfOk result (λ p. pieces_of p ≡ options names.now.plain.now sources.entry.now target) }
+{
     match target {
         None => Ok(Part::Options(&[])),
-        Some(Target::Rule(number)) => rule_part(names, sources, number),
-        Some(Target::Terminal(number)) => terminal_part(names, number),
+        Some(Target::Rule(number)) => Ok(rule_part(names, sources, number)?),
+        Some(Target::Terminal(number)) => Ok(terminal_part(names, number)?),
         Some(Target::Lookahead) => Ok(Part::Options(sources.lookahead.as_slice())),
         Some(Target::Lookbehind) => Ok(Part::Options(sources.lookbehind.as_slice())),
         Some(Target::Error) => Ok(Part::Itself(Symbol::Terminal(TerminalString::Error))),
@@ -51,27 +66,33 @@ fn rule_part<'s>(
     names: &Names<'_>,
     sources: &'s Sources,
     number: usize,
-) -> Result<Part<'s>, AllocError> {
+) -> Result<Part<'s>, AllocError>
+    ensures { IfOk result (λ p. pieces_of p ≡ options names.now.plain.now sources.entry.now (Some (Rule number))) }
+{
     match names.rule(number) {
         None => Ok(Part::Options(&[])),
-        Some(rule) => one_rule_part(rule, sources.inline(number)),
+        Some(rule) => Ok(one_rule_part(rule, sources.inline(number))?),
     }
 }
 
 /// What may stand in the place of this rule.
-fn one_rule_part<'s>(rule: &PlainRule, expanded: &'s [Expanded]) -> Result<Part<'s>, AllocError> {
+fn one_rule_part<'s>(rule: &PlainRule, expanded: &'s [Expanded]) -> Result<Part<'s>, AllocError>
+    ensures { IfOk result (λ p. pieces_of p ≡ rule_pieces rule.now expanded.entry.now) }
+{
     if rule.inline {
         Ok(Part::Options(expanded))
     } else {
-        Ok(Part::Itself(Symbol::Nonterminal(rule.name.clone()?)))
+        Ok(Part::Itself(Symbol::Nonterminal(copy_nonterminal(&rule.name)?)))
     }
 }
 
 /// The terminal of this number.
-fn terminal_part<'s>(names: &Names<'_>, number: usize) -> Result<Part<'s>, AllocError> {
+fn terminal_part<'s>(names: &Names<'_>, number: usize) -> Result<Part<'s>, AllocError>
+    ensures { IfOk result (λ p. pieces_of p ≡ terminal_pieces names.now.plain.now number) }
+{
     match names.terminal(number) {
         None => Ok(Part::Options(&[])),
-        Some(terminal) => Ok(Part::Itself(Symbol::Terminal(terminal.name.clone()?))),
+        Some(terminal) => Ok(Part::Itself(Symbol::Terminal(copy_terminal(&terminal.name)?))),
     }
 }
 
@@ -81,10 +102,14 @@ fn parts<'s>(
     names: &Names<'_>,
     sources: &'s Sources,
     alternative: &PlainAlternative,
-) -> Result<Vec<Part<'s>>, AllocError> {
+) -> Result<Vec<Part<'s>>, AllocError>
+    ensures { IfOk result (λ v. map pieces_of v.items ≡ map (λ s. options names.now.plain.now sources.entry.now (target names.now.plain.now s.kind)) alternative.now.symbols) }
+{
     let mut parts = Vec::new(alloc);
     for symbol in alternative.symbols.as_slice() {
-        parts.push(part(names, sources, names.target(&symbol.kind))?)?;
+        let target = names.target(&symbol.kind);
+        let part = part(names, sources, target)?;
+        parts.push(part)?;
     }
     Ok(parts)
 }
@@ -95,13 +120,17 @@ pub fn combined(
     names: &Names<'_>,
     sources: &Sources,
     alternative: &PlainAlternative,
-) -> Result<Vec<Combination>, AllocError> {
+) -> Result<Vec<Combination>, AllocError>
+    ensures { IfOk result (λ v. v.items ≡ combined names.now.plain.now sources.now alternative.now) }
+{
     let parts = parts(alloc, names, sources, alternative)?;
-    combinations(alloc, alternative.fallible, parts.as_slice())
+    Ok(combinations(alloc, alternative.fallible, parts.as_slice())?)
 }
 
 /// Whether something in an alternative is replaced.
-pub fn is_replaced(names: &Names<'_>, alternative: &PlainAlternative) -> bool {
+pub fn is_replaced(names: &Names<'_>, alternative: &PlainAlternative) -> bool
+    ensures { result ≡ is_replaced names.now.plain.now alternative.now }
+{
     for symbol in alternative.symbols.as_slice() {
         if is_replaced_kind(names, &symbol.kind) {
             return true;
@@ -111,7 +140,9 @@ pub fn is_replaced(names: &Names<'_>, alternative: &PlainAlternative) -> bool {
 }
 
 /// Whether a symbol is replaced.
-fn is_replaced_kind(names: &Names<'_>, kind: &PlainKind) -> bool {
+fn is_replaced_kind(names: &Names<'_>, kind: &PlainKind) -> bool
+    ensures { result ≡ is_replaced_target names.now.plain.now (target names.now.plain.now kind.now) }
+{
     match names.target(kind) {
         None => false,
         Some(Target::Rule(number)) => is_inline(names.plain.rules.as_slice(), number),
@@ -128,26 +159,32 @@ pub fn action_count(
     names: &Names<'_>,
     extents: &[Extent],
     alternative: &PlainAlternative,
-) -> Result<usize, AllocError> {
+) -> Result<usize, AllocError>
+    requires { extents.now ≡ map extent_of (inline_sides names.now.plain.now) }
+    ensures { IfOk result (λ n. n ≡ action_count names.now.plain.now alternative.now) }
+{
     if is_replaced(names, alternative) {
-        sum(1, side_count(names, extents, alternative)?)
+        let sides = side_count(names, extents, alternative)?;
+        Ok(sum(1, sides)?)
     } else {
         Ok(1)
     }
 }
 
-/// How many right sides an alternative has. More than a usize can count are more than memory can
-/// hold.
+/// How many right sides an alternative has. Memory holds no more than a usize can count.
 fn side_count(
     names: &Names<'_>,
     extents: &[Extent],
     alternative: &PlainAlternative,
-) -> Result<usize, AllocError> {
-    let count = alternative_extent(names, extents, alternative).alternatives;
-    if count == usize::MAX {
+) -> Result<usize, AllocError>
+    requires { extents.now ≡ map extent_of (inline_sides names.now.plain.now) }
+    ensures { IfOk result (λ n. n ≡ length (right_sides names.now.plain.now (inline_sides names.now.plain.now) alternative.now)) }
+{
+    let extent = alternative_extent(names, extents, alternative);
+    if extent.alternatives == usize::MAX {
         return Err(AllocError);
     }
-    Ok(count)
+    Ok(extent.alternatives)
 }
 
 /// How many actions these alternatives have.
@@ -155,7 +192,10 @@ pub fn actions_in(
     names: &Names<'_>,
     extents: &[Extent],
     alternatives: &[PlainAlternative],
-) -> Result<usize, AllocError> {
+) -> Result<usize, AllocError>
+    requires { extents.now ≡ map extent_of (inline_sides names.now.plain.now) }
+    ensures { IfOk result (λ n. n ≡ actions_in names.now.plain.now alternatives.now) }
+{
     let mut count: usize = 0;
     for alternative in alternatives {
         let more = action_count(names, extents, alternative)?;
@@ -172,14 +212,13 @@ fn push_expanded(
     user: usize,
     alternative: &PlainAlternative,
     all: &mut Items<Expanded>,
-) -> Result<(), AllocError> {
+) -> Result<(), AllocError>
+    ensures { OnOk result (all.new ≡ all.old ++ expanded names.now.plain.now sources.now user alternative.now) }
+{
     let combinations = combined(alloc, names, sources, alternative)?;
-    let first = if is_replaced(names, alternative) {
-        sum(user, 1)?
-    } else {
-        user
-    };
-    push_numbered(first, combinations, all)
+    let first = after(user, is_replaced(names, alternative))?;
+    push_numbered(first, combinations, all)?;
+    Ok(())
 }
 
 /// Adds these combinations as expanded alternatives, whose actions begin with this number.
@@ -187,7 +226,9 @@ fn push_numbered(
     first: usize,
     combinations: Vec<Combination>,
     all: &mut Items<Expanded>,
-) -> Result<(), AllocError> {
+) -> Result<(), AllocError>
+    ensures { OnOk result (all.new ≡ all.old ++ expanded_from first combinations.items) }
+{
     let mut action = first;
     for combination in combinations {
         let Combination {
@@ -214,7 +255,10 @@ pub fn expanded_all(
     sources: &Sources,
     first: usize,
     alternatives: &[PlainAlternative],
-) -> Result<Items<Expanded>, AllocError> {
+) -> Result<Items<Expanded>, AllocError>
+    requires { extents.now ≡ map extent_of (inline_sides names.now.plain.now) }
+    ensures { IfOk result (λ e. e ≡ expanded_all names.now.plain.now sources.now first alternatives.now) }
+{
     let mut all = empty(alloc);
     let mut user = first;
     for alternative in alternatives {
@@ -225,18 +269,24 @@ pub fn expanded_all(
     Ok(all)
 }
 
-/// What `@L`, `@R` and the inline rules are replaced by. Each inline rule uses only inline rules
-/// above it.
+/// What `@L`, `@R` and the inline rules, which use inline rules above them, are replaced by.
 pub fn make_sources(
     alloc: Global,
     names: &Names<'_>,
     extents: &[Extent],
     frame: Frame,
-) -> Result<Sources, AllocError> {
+) -> Result<Sources, AllocError>
+    requires counted { extents.now ≡ map extent_of (inline_sides names.now.plain.now) }
+    requires framed { frame ≡ frame_of names.now.plain.now }
+    ensures { IfOk result (λ s. s ≡ all_sources names.now.plain.now) }
+{
+    let lookahead = lookaround(alloc, frame.lookahead)?;
+    let lookbehind = lookaround(alloc, frame.lookbehind)?;
+    let inlines = empty(alloc);
     let mut sources = Sources {
-        lookahead: lookaround(alloc, frame.lookahead)?,
-        lookbehind: lookaround(alloc, frame.lookbehind)?,
-        inlines: empty(alloc),
+        lookahead,
+        lookbehind,
+        inlines,
     };
     let mut first = frame.first;
     for rule in names.plain.rules.as_slice() {
@@ -249,19 +299,21 @@ pub fn make_sources(
 }
 
 /// A lookaround of this action.
-fn lookaround(alloc: Global, action: usize) -> Result<Items<Expanded>, AllocError> {
+fn lookaround(alloc: Global, action: usize) -> Result<Items<Expanded>, AllocError>
+    ensures { IfOk result (λ e. e ≡ lookaround action ∷ []) }
+{
     let mut one = empty(alloc);
+    let symbols = empty(alloc);
     let expanded = Expanded {
         action,
         fallible: false,
-        symbols: empty(alloc),
+        symbols,
     };
     push(&mut one, expanded)?;
     Ok(one)
 }
 
-/// The expanded alternatives of an inline rule, whose actions begin with this number; none of
-/// another rule.
+/// Those of an inline rule, whose actions begin with this number; none of another rule.
 fn inline_expanded(
     alloc: Global,
     names: &Names<'_>,
@@ -269,16 +321,13 @@ fn inline_expanded(
     sources: &Sources,
     first: usize,
     rule: &PlainRule,
-) -> Result<Items<Expanded>, AllocError> {
+) -> Result<Items<Expanded>, AllocError>
+    requires { extents.now ≡ map extent_of (inline_sides names.now.plain.now) }
+    ensures { IfOk result (λ e. e ≡ (if rule.now.inline then expanded_all names.now.plain.now sources.now first rule.now.alternatives else [])) }
+{
     if rule.inline {
-        expanded_all(
-            alloc,
-            names,
-            extents,
-            sources,
-            first,
-            rule.alternatives.as_slice(),
-        )
+        let alternatives = rule.alternatives.as_slice();
+        Ok(expanded_all(alloc, names, extents, sources, first, alternatives)?)
     } else {
         Ok(empty(alloc))
     }

@@ -1,5 +1,11 @@
 //! Which symbols of their own kind are used, and where the actions begin.
 
+ghost use Rattle.std.specs.Prelude.{◌≡◌, ◌+◌, if◌then◌else◌, IfOk, map, count_by};
+ghost use Rattle.std.specs.List.{list_any};
+ghost use Rattle.std.specs.Map.Iter.{deref};
+ghost use Rattle.lp_lower.specs.ActionNumbers.{is_lookahead, is_lookbehind, is_error};
+ghost use Rattle.lp_lower.specs.Framing.{frame_of};
+
 use crate::symbols::all_symbols;
 use lp_syntax::{PlainGrammar, PlainKind, PlainRule, PlainSymbol};
 use std::alloc::{AllocError, Global};
@@ -18,79 +24,79 @@ pub struct Frame {
 
 /// The frame of a grammar: the actions of the starts stand first, then the lookarounds that are
 /// used, and then the rules.
-pub fn make_frame(alloc: Global, plain: &PlainGrammar) -> Result<Frame, AllocError> {
-    let symbols = all_symbols(alloc, plain)?;
-    let uses_lookahead = uses_lookahead(symbols.as_slice());
-    let uses_lookbehind = uses_lookbehind(symbols.as_slice());
+pub fn make_frame(alloc: Global, plain: &PlainGrammar) -> Result<Frame, AllocError>
+    ensures { IfOk result (λ f. f ≡ frame_of plain.now) }
+{
+    let all = all_symbols(alloc, plain)?;
+    let symbols = all.as_slice();
+    let ahead = uses_lookahead(symbols);
+    let behind = uses_lookbehind(symbols);
+    let error = uses_error(symbols);
     let lookahead = public_count(plain.rules.as_slice())?;
-    let lookbehind = after(lookahead, uses_lookahead)?;
+    let lookbehind = after(lookahead, ahead)?;
+    let first = after(lookbehind, behind)?;
     Ok(Frame {
-        uses_lookahead,
-        uses_lookbehind,
-        uses_error: uses_error(symbols.as_slice()),
+        uses_lookahead: ahead,
+        uses_lookbehind: behind,
+        uses_error: error,
         lookahead,
         lookbehind,
-        first: after(lookbehind, uses_lookbehind)?,
+        first,
     })
 }
 
 /// The sum of two numbers. More than a usize can count are more than memory can hold.
-pub fn sum(first: usize, second: usize) -> Result<usize, AllocError> {
-    first.checked_add(second).ok_or(AllocError)
+pub fn sum(first: usize, second: usize) -> Result<usize, AllocError>
+    ensures { IfOk result (λ n. n ≡ first + second) }
+{
+    match first.checked_add(second) {
+        None => Err(AllocError),
+        Some(sum) => Ok(sum),
+    }
 }
 
 /// The number after this one where an action stands there.
-pub fn after(number: usize, used: bool) -> Result<usize, AllocError> {
-    if used { sum(number, 1) } else { Ok(number) }
+pub fn after(number: usize, used: bool) -> Result<usize, AllocError>
+    ensures { IfOk result (λ n. n ≡ number + (if used then 1 else 0)) }
+{
+    if used {
+        Ok(sum(number, 1)?)
+    } else {
+        Ok(number)
+    }
 }
 
 /// How many rules are public.
-fn public_count(rules: &[PlainRule]) -> Result<usize, AllocError> {
+fn public_count(rules: &[PlainRule]) -> Result<usize, AllocError>
+    ensures { IfOk result (λ n. n ≡ count_by (λ r. r.public) rules.now) }
+{
     let mut count: usize = 0;
     for rule in rules {
-        if rule.public {
-            count = sum(count, 1)?;
-        }
+        count = after(count, rule.public)?;
     }
     Ok(count)
 }
 
-fn uses_lookahead(symbols: &[&PlainSymbol]) -> bool {
-    symbols.iter().any(|symbol| is_lookahead(&symbol.kind))
+fn uses_lookahead(symbols: &[&PlainSymbol]) -> bool
+    ensures { result ≡ list_any (λ s. is_lookahead s.kind) (map deref symbols.now) }
+{
+    symbols
+        .iter()
+        .any(|symbol| matches!(&symbol.kind, PlainKind::Lookahead))
 }
 
-fn uses_lookbehind(symbols: &[&PlainSymbol]) -> bool {
-    symbols.iter().any(|symbol| is_lookbehind(&symbol.kind))
+fn uses_lookbehind(symbols: &[&PlainSymbol]) -> bool
+    ensures { result ≡ list_any (λ s. is_lookbehind s.kind) (map deref symbols.now) }
+{
+    symbols
+        .iter()
+        .any(|symbol| matches!(&symbol.kind, PlainKind::Lookbehind))
 }
 
-fn uses_error(symbols: &[&PlainSymbol]) -> bool {
-    symbols.iter().any(|symbol| is_error(&symbol.kind))
-}
-
-fn is_lookahead(kind: &PlainKind) -> bool {
-    match kind {
-        PlainKind::Lookahead => true,
-        PlainKind::Name(_) | PlainKind::Terminal(_) | PlainKind::Lookbehind | PlainKind::Error => {
-            false
-        }
-    }
-}
-
-fn is_lookbehind(kind: &PlainKind) -> bool {
-    match kind {
-        PlainKind::Lookbehind => true,
-        PlainKind::Name(_) | PlainKind::Terminal(_) | PlainKind::Lookahead | PlainKind::Error => {
-            false
-        }
-    }
-}
-
-fn is_error(kind: &PlainKind) -> bool {
-    match kind {
-        PlainKind::Error => true,
-        PlainKind::Name(_)
-        | PlainKind::Terminal(_)
-        | PlainKind::Lookahead
-        | PlainKind::Lookbehind => false,
-    }
+fn uses_error(symbols: &[&PlainSymbol]) -> bool
+    ensures { result ≡ list_any (λ s. is_error s.kind) (map deref symbols.now) }
+{
+    symbols
+        .iter()
+        .any(|symbol| matches!(&symbol.kind, PlainKind::Error))
 }

@@ -3,6 +3,7 @@
 
 mod actions;
 mod combine;
+mod copies;
 mod expand;
 mod extents;
 mod frame;

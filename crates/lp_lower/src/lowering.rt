@@ -2,10 +2,14 @@
 
 ghost use Rattle.std.specs.Prelude.{◌≡◌, IfErr, IfOk, OnOk, map};
 ghost use Rattle.lp_lower.specs.Causes.{IsAccepted, IsCause};
+ghost use Rattle.lp_lower.specs.Expansion.{all_sources};
 ghost use Rattle.lp_lower.specs.Extents.{extent_of};
+ghost use Rattle.lp_lower.specs.Framing.{frame_of};
+ghost use Rattle.lp_lower.specs.Lowering.{IsKept, IsLowering, IsTyping};
 ghost use Rattle.lp_lower.specs.RightSides.{inline_sides};
 
 use crate::actions::actions;
+use crate::copies::{copy_clauses, copy_given, copy_parameters, copy_texts, copy_type_parameters};
 use crate::expand::{Sources, make_sources};
 use crate::extents::{Extent, inline_extents, too_many};
 use crate::frame::{Frame, make_frame};
@@ -14,9 +18,9 @@ use crate::productions::nonterminals;
 use crate::refusals::{duplicate, inline_order, unknown_name};
 use crate::symbols::all_symbols;
 use crate::tables::{nonterminal_types, patterns, public_names, terminal_names, terminal_types};
-use crate::types::given;
+use lp_repr::parse_tree::TypeParameter;
 use lp_repr::repr::{Grammar, Parameter, TerminalSet, Types, WhereClause};
-use lp_repr::text::Items;
+use lp_repr::text::{Items, Text};
 use lp_syntax::PlainGrammar;
 use std::alloc::{AllocError, Global};
 
@@ -49,6 +53,7 @@ impl From<AllocError> for LowerFault {
 pub fn lower(alloc: Global, grammar: &PlainGrammar) -> Result<Grammar, LowerFault>
     ensures refused { IfErr result (IsCause grammar.now) }
     ensures accepted { OnOk result (IsAccepted grammar.now) }
+    ensures lowered { IfOk result (IsLowering grammar.now) }
 {
     let names = Names::new(alloc, grammar)?;
     let extents = accept(alloc, &names)?;
@@ -79,10 +84,13 @@ fn accept(alloc: Global, names: &Names<'_>) -> Result<Vec<Extent>, LowerFault>
 }
 
 /// The lowering of a grammar.
-fn lowered(alloc: Global, names: &Names<'_>, extents: &[Extent]) -> Result<Grammar, AllocError> {
+fn lowered(alloc: Global, names: &Names<'_>, extents: &[Extent]) -> Result<Grammar, AllocError>
+    requires { extents.now ≡ map extent_of (inline_sides names.now.plain.now) }
+    ensures { IfOk result (IsLowering names.now.plain.now) }
+{
     let frame = make_frame(alloc, names.plain)?;
     let sources = make_sources(alloc, names, extents, frame)?;
-    assembled(alloc, names, extents, frame, &sources)
+    Ok(assembled(alloc, names, extents, frame, &sources)?)
 }
 
 /// The lowering of a grammar, over what stands in front of its rules and what is replaced.
@@ -92,45 +100,82 @@ fn assembled(
     extents: &[Extent],
     frame: Frame,
     sources: &Sources,
-) -> Result<Grammar, AllocError> {
+) -> Result<Grammar, AllocError>
+    requires counted { extents.now ≡ map extent_of (inline_sides names.now.plain.now) }
+    requires framed { frame ≡ frame_of names.now.plain.now }
+    requires replaced { sources.now ≡ all_sources names.now.plain.now }
+    ensures { IfOk result (IsLowering names.now.plain.now) }
+{
     let plain = names.plain;
-    let all = terminal_names(alloc, plain, frame.uses_error)?;
+    let kept = keep(alloc, plain)?;
+    let start_nonterminals = public_names(alloc, plain)?;
+    let all = terminal_names(alloc, plain, frame)?;
+    let conversions = patterns(alloc, plain)?;
+    let types = types(alloc, plain, frame)?;
+    let action_fn_defns = actions(alloc, names, extents, sources, frame)?;
+    let nonterminals = nonterminals(alloc, names, extents, sources, frame)?;
     Ok(Grammar {
         prefix: plain.prefix.clone()?,
         algorithm: plain.algorithm,
         uses_error_recovery: frame.uses_error,
-        start_nonterminals: public_names(alloc, plain)?,
-        uses: plain.uses.clone()?,
-        type_parameters: plain.type_parameters.clone()?,
-        parameters: copy_parameters(&plain.parameters)?,
-        where_clauses: copy_clauses(&plain.where_clauses)?,
+        start_nonterminals,
+        uses: kept.uses,
+        type_parameters: kept.type_parameters,
+        parameters: kept.parameters,
+        where_clauses: kept.where_clauses,
         intern_token: None,
-        action_fn_defns: actions(alloc, names, extents, sources, frame)?,
+        action_fn_defns,
         terminals: TerminalSet { all },
-        nonterminals: nonterminals(alloc, names, extents, sources, frame)?,
-        conversions: patterns(alloc, plain)?,
-        types: types(alloc, plain, frame.uses_error)?,
-        module_attributes: plain.attributes.clone()?,
+        nonterminals,
+        conversions,
+        types,
+        module_attributes: kept.attributes,
     })
 }
 
-/// Copies of parameters.
-fn copy_parameters(parameters: &Items<Parameter>) -> Result<Items<Parameter>, AllocError> {
-    parameters.clone()
+/// The lists that a lowered grammar takes over as they are.
+#[derive(Drop)]
+struct Kept {
+    uses: Items<Text>,
+    type_parameters: Items<TypeParameter>,
+    parameters: Items<Parameter>,
+    where_clauses: Items<WhereClause>,
+    attributes: Items<Text>,
 }
 
-/// Copies of clauses.
-fn copy_clauses(clauses: &Items<WhereClause>) -> Result<Items<WhereClause>, AllocError> {
-    clauses.clone()
+/// The lists that are taken over.
+fn keep(alloc: Global, plain: &PlainGrammar) -> Result<Kept, AllocError>
+    ensures { IfOk result (IsKept plain.now) }
+{
+    let uses = copy_texts(alloc, &plain.uses)?;
+    let type_parameters = copy_type_parameters(alloc, &plain.type_parameters)?;
+    let parameters = copy_parameters(alloc, &plain.parameters)?;
+    let where_clauses = copy_clauses(alloc, &plain.where_clauses)?;
+    let attributes = copy_texts(alloc, &plain.attributes)?;
+    Ok(Kept {
+        uses,
+        type_parameters,
+        parameters,
+        where_clauses,
+        attributes,
+    })
 }
 
 /// The types of a grammar.
-fn types(alloc: Global, plain: &PlainGrammar, with_error: bool) -> Result<Types, AllocError> {
+fn types(alloc: Global, plain: &PlainGrammar, frame: Frame) -> Result<Types, AllocError>
+    requires { frame ≡ frame_of plain.now }
+    ensures { IfOk result (IsTyping plain.now) }
+{
+    let loc = copy_given(&plain.location)?;
+    let token = plain.token.clone()?;
+    let error = copy_given(&plain.error)?;
+    let terminals = terminal_types(alloc, plain, frame)?;
+    let nonterminals = nonterminal_types(alloc, plain)?;
     Ok(Types {
-        loc: given(&plain.location)?,
-        token: plain.token.clone()?,
-        error: given(&plain.error)?,
-        terminals: terminal_types(alloc, plain, with_error)?,
-        nonterminals: nonterminal_types(alloc, plain)?,
+        loc,
+        token,
+        error,
+        terminals,
+        nonterminals,
     })
 }

@@ -1,5 +1,17 @@
 //! What the lowered grammar knows by name: public names, terminals with their patterns, and types.
 
+ghost use Rattle.std.specs.Prelude.{◌≡◌, ◌++◌, IfOk, OnOk, [], ◌∷◌, if◌then◌else◌, map, not};
+ghost use Rattle.std.specs.BTreeMap.{insert_entry};
+ghost use Rattle.lp_repr.specs.NameOrder.{nonterminal_cmp, terminal_cmp};
+ghost use Rattle.lp_repr.specs.TypeTrees.{type_tree};
+ghost use Rattle.lp_repr.specs.declared.repr.TerminalString.TheVariants.{Error};
+ghost use Rattle.lp_lower.specs.Framing.{frame_of};
+ghost use Rattle.lp_lower.specs.TypeOf.{holes_tree, recovery_tree};
+ghost use Rattle.lp_lower.specs.Lowering.{declared_type, kept_rules, kept_type, named_patterns, nonterminal_types, pattern_entry, pattern_tree, public_names, public_rules, start_type, terminal_names, terminal_types, type_entry};
+ghost use Rattle.lp_lower.specs.Productions.{put_all, start_name};
+
+use crate::copies::{copy_nonterminal, copy_pattern, copy_terminal};
+use crate::frame::Frame;
 use crate::lists::{empty, push};
 use crate::productions::start_name;
 use crate::types::{holes_type, recovery_type};
@@ -13,7 +25,9 @@ use std::collections::BTreeMap;
 pub fn public_names(
     alloc: Global,
     plain: &PlainGrammar,
-) -> Result<BTreeMap<NonterminalString, NonterminalString>, AllocError> {
+) -> Result<BTreeMap<NonterminalString, NonterminalString>, AllocError>
+    ensures { IfOk result (λ m. m.entries ≡ put_all nonterminal_cmp [] (public_names plain.now)) }
+{
     let mut names = BTreeMap::new(alloc);
     for rule in plain.rules.as_slice() {
         put_public_name(alloc, plain, rule, &mut names)?;
@@ -27,9 +41,13 @@ fn put_public_name(
     plain: &PlainGrammar,
     rule: &PlainRule,
     names: &mut BTreeMap<NonterminalString, NonterminalString>,
-) -> Result<(), AllocError> {
+) -> Result<(), AllocError>
+    ensures { OnOk result (names.new.entries ≡ (if rule.now.public then insert_entry nonterminal_cmp names.old.entries rule.now.name (start_name plain.now rule.now) else names.old.entries)) }
+{
     if rule.public {
-        names.insert(rule.name.clone()?, start_name(alloc, plain, rule)?)?;
+        let name = copy_nonterminal(&rule.name)?;
+        let start = start_name(alloc, plain, rule)?;
+        names.insert(name, start)?;
     }
     Ok(())
 }
@@ -38,23 +56,36 @@ fn put_public_name(
 pub fn terminal_names(
     alloc: Global,
     plain: &PlainGrammar,
-    with_error: bool,
-) -> Result<Items<TerminalString>, AllocError> {
+    frame: Frame,
+) -> Result<Items<TerminalString>, AllocError>
+    requires { frame ≡ frame_of plain.now }
+    ensures { IfOk result (λ t. t ≡ terminal_names plain.now) }
+{
     let mut names = declared_names(alloc, plain.conversions.as_slice())?;
-    if with_error {
-        push(&mut names, TerminalString::Error)?;
-    }
+    push_error(frame.uses_error, &mut names)?;
     Ok(names)
+}
+
+/// Adds the error terminal where it is used.
+fn push_error(used: bool, names: &mut Items<TerminalString>) -> Result<(), AllocError>
+    ensures { OnOk result (names.new ≡ names.old ++ (if used then Error ∷ [] else [])) }
+{
+    if used {
+        push(names, TerminalString::Error)?;
+    }
+    Ok(())
 }
 
 /// The names of these terminals.
 fn declared_names(
     alloc: Global,
     terminals: &[PlainTerminal],
-) -> Result<Items<TerminalString>, AllocError> {
+) -> Result<Items<TerminalString>, AllocError>
+    ensures { IfOk result (λ t. t ≡ map (λ t. t.name) terminals.now) }
+{
     let mut names = empty(alloc);
     for terminal in terminals {
-        push(&mut names, terminal.name.clone()?)?;
+        push(&mut names, copy_terminal(&terminal.name)?)?;
     }
     Ok(names)
 }
@@ -63,44 +94,59 @@ fn declared_names(
 pub fn patterns(
     alloc: Global,
     plain: &PlainGrammar,
-) -> Result<BTreeMap<TerminalString, TokenPattern>, AllocError> {
+) -> Result<BTreeMap<TerminalString, TokenPattern>, AllocError>
+    ensures { IfOk result (λ m. map pattern_entry m.entries ≡ put_all terminal_cmp [] (named_patterns plain.now)) }
+{
     let mut patterns = BTreeMap::new(alloc);
     for terminal in plain.conversions.as_slice() {
-        put_pattern(terminal, &mut patterns)?;
+        put_pattern(alloc, terminal, &mut patterns)?;
     }
     Ok(patterns)
 }
 
 /// Puts the pattern of a terminal.
 fn put_pattern(
+    alloc: Global,
     terminal: &PlainTerminal,
     patterns: &mut BTreeMap<TerminalString, TokenPattern>,
-) -> Result<(), AllocError> {
-    patterns.insert(terminal.name.clone()?, copy_pattern(&terminal.pattern)?)?;
+) -> Result<(), AllocError>
+    ensures { OnOk result (map pattern_entry patterns.new.entries ≡ insert_entry terminal_cmp (map pattern_entry patterns.old.entries) terminal.now.name (pattern_tree terminal.now.pattern)) }
+{
+    let name = copy_terminal(&terminal.name)?;
+    let pattern = copy_pattern(alloc, &terminal.pattern)?;
+    patterns.insert(name, pattern)?;
     Ok(())
-}
-
-/// A copy of a pattern.
-fn copy_pattern(pattern: &TokenPattern) -> Result<TokenPattern, AllocError> {
-    pattern.clone()
 }
 
 /// The types of the terminals.
 pub fn terminal_types(
     alloc: Global,
     plain: &PlainGrammar,
-    with_error: bool,
-) -> Result<BTreeMap<TerminalString, TypeRepr>, AllocError> {
+    frame: Frame,
+) -> Result<BTreeMap<TerminalString, TypeRepr>, AllocError>
+    requires { frame ≡ frame_of plain.now }
+    ensures { IfOk result (λ m. map type_entry m.entries ≡ put_all terminal_cmp [] (terminal_types plain.now)) }
+{
     let mut types = BTreeMap::new(alloc);
     put_declared_types(alloc, plain, &mut types)?;
-    if with_error {
-        put_type(
-            TerminalString::Error,
-            recovery_type(alloc, plain)?,
-            &mut types,
-        )?;
-    }
+    put_error_type(alloc, plain, frame.uses_error, &mut types)?;
     Ok(types)
+}
+
+/// Puts the type of the error terminal where it is used.
+fn put_error_type(
+    alloc: Global,
+    plain: &PlainGrammar,
+    used: bool,
+    types: &mut BTreeMap<TerminalString, TypeRepr>,
+) -> Result<(), AllocError>
+    ensures { OnOk result (map type_entry types.new.entries ≡ (if used then insert_entry terminal_cmp (map type_entry types.old.entries) Error (recovery_tree plain.now) else map type_entry types.old.entries)) }
+{
+    if used {
+        let ty = recovery_type(alloc, plain)?;
+        put_type(TerminalString::Error, ty, types)?;
+    }
+    Ok(())
 }
 
 /// Puts the type of a name.
@@ -108,7 +154,9 @@ fn put_type<K: Ord + Drop>(
     name: K,
     ty: TypeRepr,
     types: &mut BTreeMap<K, TypeRepr>,
-) -> Result<(), AllocError> {
+) -> Result<(), AllocError>
+    ensures { OnOk result (map type_entry types.new.entries ≡ insert_entry K.cmp (map type_entry types.old.entries) name (type_tree ty)) }
+{
     types.insert(name, ty)?;
     Ok(())
 }
@@ -118,11 +166,28 @@ fn put_declared_types(
     alloc: Global,
     plain: &PlainGrammar,
     types: &mut BTreeMap<TerminalString, TypeRepr>,
-) -> Result<(), AllocError> {
+) -> Result<(), AllocError>
+    ensures { OnOk result (map type_entry types.new.entries ≡ put_all terminal_cmp (map type_entry types.old.entries) (map (declared_type plain.now) plain.now.conversions)) }
+{
     for terminal in plain.conversions.as_slice() {
-        let ty = holes_type(alloc, &plain.token, terminal.pattern.holes.as_slice())?;
-        put_type(terminal.name.clone()?, ty, types)?;
+        put_declared_type(alloc, plain, terminal, types)?;
     }
+    Ok(())
+}
+
+/// Puts the type of a terminal that is declared.
+fn put_declared_type(
+    alloc: Global,
+    plain: &PlainGrammar,
+    terminal: &PlainTerminal,
+    types: &mut BTreeMap<TerminalString, TypeRepr>,
+) -> Result<(), AllocError>
+    ensures { OnOk result (map type_entry types.new.entries ≡ insert_entry terminal_cmp (map type_entry types.old.entries) terminal.now.name (holes_tree plain.now.token terminal.now.pattern.holes)) }
+{
+    let name = copy_terminal(&terminal.name)?;
+    let holes = terminal.pattern.holes.as_slice();
+    let ty = holes_type(alloc, &plain.token, holes)?;
+    put_type(name, ty, types)?;
     Ok(())
 }
 
@@ -130,7 +195,9 @@ fn put_declared_types(
 pub fn nonterminal_types(
     alloc: Global,
     plain: &PlainGrammar,
-) -> Result<BTreeMap<NonterminalString, TypeRepr>, AllocError> {
+) -> Result<BTreeMap<NonterminalString, TypeRepr>, AllocError>
+    ensures { IfOk result (λ m. map type_entry m.entries ≡ put_all nonterminal_cmp [] (nonterminal_types plain.now)) }
+{
     let mut types = BTreeMap::new(alloc);
     put_start_types(alloc, plain, &mut types)?;
     put_rule_types(plain, &mut types)?;
@@ -142,7 +209,9 @@ fn put_start_types(
     alloc: Global,
     plain: &PlainGrammar,
     types: &mut BTreeMap<NonterminalString, TypeRepr>,
-) -> Result<(), AllocError> {
+) -> Result<(), AllocError>
+    ensures { OnOk result (map type_entry types.new.entries ≡ put_all nonterminal_cmp (map type_entry types.old.entries) (map (start_type plain.now) (public_rules plain.now))) }
+{
     for rule in plain.rules.as_slice() {
         put_start_type(alloc, plain, rule, types)?;
     }
@@ -155,9 +224,13 @@ fn put_start_type(
     plain: &PlainGrammar,
     rule: &PlainRule,
     types: &mut BTreeMap<NonterminalString, TypeRepr>,
-) -> Result<(), AllocError> {
+) -> Result<(), AllocError>
+    ensures { OnOk result (map type_entry types.new.entries ≡ (if rule.now.public then insert_entry nonterminal_cmp (map type_entry types.old.entries) (start_name plain.now rule.now) (type_tree rule.now.ty) else map type_entry types.old.entries)) }
+{
     if rule.public {
-        put_type(start_name(alloc, plain, rule)?, rule.ty.clone()?, types)?;
+        let name = start_name(alloc, plain, rule)?;
+        let ty = rule.ty.clone()?;
+        put_type(name, ty, types)?;
     }
     Ok(())
 }
@@ -166,7 +239,9 @@ fn put_start_type(
 fn put_rule_types(
     plain: &PlainGrammar,
     types: &mut BTreeMap<NonterminalString, TypeRepr>,
-) -> Result<(), AllocError> {
+) -> Result<(), AllocError>
+    ensures { OnOk result (map type_entry types.new.entries ≡ put_all nonterminal_cmp (map type_entry types.old.entries) (map kept_type (kept_rules plain.now))) }
+{
     for rule in plain.rules.as_slice() {
         put_rule_type(rule, types)?;
     }
@@ -177,9 +252,14 @@ fn put_rule_types(
 fn put_rule_type(
     rule: &PlainRule,
     types: &mut BTreeMap<NonterminalString, TypeRepr>,
-) -> Result<(), AllocError> {
-    if !rule.inline {
-        put_type(rule.name.clone()?, rule.ty.clone()?, types)?;
+) -> Result<(), AllocError>
+    ensures { OnOk result (map type_entry types.new.entries ≡ (if not rule.now.inline then insert_entry nonterminal_cmp (map type_entry types.old.entries) rule.now.name (type_tree rule.now.ty) else map type_entry types.old.entries)) }
+{
+    if rule.inline {
+        return Ok(());
     }
+    let name = copy_nonterminal(&rule.name)?;
+    let ty = rule.ty.clone()?;
+    put_type(name, ty, types)?;
     Ok(())
 }

@@ -2,6 +2,7 @@
 use Rattle.std.specs.Prelude.{◌≡◌, ℕ, ◌<◌, List, length, Option, Some}
 use Rattle.lp_lines.specs.File.{IsCutFile}
 use Rattle.lp_lower.specs.Causes.{IsAccepted}
+use Rattle.lp_lower.specs.Lowering.{IsLowering}
 use Rattle.lp_repr.specs.declared.repr.Grammar.{Grammar}
 use Rattle.lp_starts.specs.Tables.{AreTablesOf, HasNoTables}
 use Rattle.lp_starts.specs.declared.tables.TablesFault.{TablesFault}
@@ -18,9 +19,9 @@ use Rattle.lp_plain.specs.declared.input.ReadError.TheVariants as read
 abbrev pub IsTooLong : Option (List ℕ) → Type 0
 IsTooLong left = (bytes : List ℕ) → left ≡ Some bytes → 16777216 < length bytes
 
--- a plain grammar that is not refused, with a grammar that it is lowered to
+-- a plain grammar that is not refused, with its lowering
 abbrev pub LowersTo : PlainGrammar → Grammar → Type 0
-LowersTo plain g = IsAccepted plain
+LowersTo plain g = IsAccepted plain × IsLowering plain g
 
 -- the grammar of a file, with its tables and what follows its text
 pub record IsFront (bytes : List ℕ) (f : Front) : Type 0 where
@@ -28,7 +29,7 @@ pub record IsFront (bytes : List ℕ) (f : Front) : Type 0 where
   pub tables : AreTablesOf f.grammar f.tables.items
   pub tail : (text : List ℕ) × IsCutFile bytes text f.tail.items
 
--- a grammar that a plain grammar is lowered to has no tables
+-- the lowering of a plain grammar has no tables
 abbrev pub IsUntabled : TablesFault → Type 0
 IsUntabled fault = (plain : PlainGrammar) × (g : Grammar) × LowersTo plain g × HasNoTables g fault
 

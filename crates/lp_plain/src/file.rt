@@ -1,7 +1,6 @@
 //! A grammar file, from its source to its grammar and states.
 
 ghost use Rattle.std.specs.Prelude.{◌≡◌, ℕ, List, Some, IfOk, IfErr};
-ghost use Rattle.lp_lower.specs.Causes.{IsAccepted};
 ghost use Rattle.lp_plain.specs.Front.{IsFileFault, IsFront, IsFrontFault, LowersTo, StopsReading, Untabled};
 
 use crate::input::{ReadError, read_all};

@@ -1,4 +1,4 @@
-use Rattle.std.proofs.Common.{◌≡◌, [], ap, ◌∙◌}
+use Rattle.std.proofs.Common.{[], ap, ◌∙◌}
 use Rattle.std.proofs.Math.ListN.{get_or, get_or-map}
 use Rattle.std.specs.Option.{option_map_or}
 use Rattle.lp_lower.specs.Extents.{extent_of}

@@ -1,4 +1,4 @@
-use Rattle.std.proofs.Common.{◌≡◌, List, map, drop}
+use Rattle.std.proofs.Common.{◌≡◌, List, drop}
 use Rattle.lp_repr.specs.declared.repr.Symbol.{Symbol}
 use Rattle.lp_lower.specs.Extents.{extent_of}
 use Rattle.lp_lower.specs.RightSides.{too_many_after, too_many}

@@ -1,4 +1,4 @@
-use Rattle.std.proofs.Common.{◌≡◌, map, sym, ap, ◌∙◌}
+use Rattle.std.proofs.Common.{map, sym, ap, ◌∙◌}
 use Rattle.std.specs.Ordering.{is_eq}
 use Rattle.lp_repr.specs.NameOrder.{terminal_cmp}
 use Rattle.lp_repr.proofs.Numbers.{terminal_ties}
