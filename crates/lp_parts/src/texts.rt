@@ -346,10 +346,7 @@ pub fn generic_names(alloc: Global, parameters: &[TypeParameter]) -> Result<Vec<
 }
 
 /// Adds the name of a parameter that isn't a lifetime.
-fn push_name<'p>(
-    names: &mut Vec<&'p str>,
-    parameter: &'p TypeParameter,
-) -> Result<(), AllocError>
+fn push_name<'p>(names: &mut Vec<&'p str>, parameter: &'p TypeParameter) -> Result<(), AllocError>
     ensures { OnOk result (map deref names.new.items ≡ map deref names.old.items ++ generic_name parameter.entry.now) }
 {
     match parameter {

@@ -16,6 +16,6 @@ pub returns-clause-parse_error : goal.returns-clause-parse_error
 returns-clause-parse_error c =
     c.in_ok-parse_error.ensures
     ∙ same_error _ _ _ _ _ _ _ _ c.as_str.ensures
-        (c.as_str-2.ensures.value ∙ c.in_ok-location.ensures)
-        (c.as_str-3.ensures.value ∙ c.in_ok-token.ensures.ok)
-        (c.as_str-4.ensures.value ∙ c.in_ok-error.ensures)
+    (c.as_str-2.ensures.value ∙ c.in_ok-location.ensures)
+    (c.as_str-3.ensures.value ∙ c.in_ok-token.ensures.ok)
+    (c.as_str-4.ensures.value ∙ c.in_ok-error.ensures)
