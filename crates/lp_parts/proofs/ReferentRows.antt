@@ -1,5 +1,5 @@
 -- The referents of a type, from those of its parts.
-use Rattle.std.proofs.Common.{◌≡◌, [], ◌++◌, refl, ap, ◌∙◌, Option, None, Some, Vec, Global}
+use Rattle.std.proofs.Common.{◌≡◌, List, [], ◌∷◌, ◌++◌, refl, ap, ◌∙◌, Option, None, Some, Vec, Global}
 use Rattle.std.specs.declared.boxed.Box.{Box}
 use Rattle.std.specs.List.{flat_map}
 use mathlib.Core.Former.{Count}

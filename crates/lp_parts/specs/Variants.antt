@@ -1,5 +1,5 @@
 -- The variants of the symbol enum: one per distinct type of a symbol.
-use Rattle.std.specs.Prelude.{ℕ, List, [], ◌∷◌, ◌++◌, length, map, nat_lt, position, unwrap_or, if◌then◌else◌}
+use Rattle.std.specs.Prelude.{ℕ, List, [], ◌∷◌, ◌++◌, fold, length, map, nat_lt, position, unwrap_or, if◌then◌else◌}
 use Rattle.std.specs.BTreeMap.{get}
 use Rattle.lp_repr.specs.NameOrder.{nonterminal_cmp, terminal_cmp}
 use Rattle.lp_repr.specs.Numbering.{nonterminals_of, terminals_of}

@@ -1,5 +1,5 @@
 -- A type's tree is that of its parts with lifetimes.
-use Rattle.std.proofs.Common.{ℕ, ◌+◌, sym, ap, ◌∙◌, map, add_assoc}
+use Rattle.std.proofs.Common.{◌≡◌, ℕ, ◌+◌, sym, ap, ◌∙◌, map, add_assoc}
 use Rattle.lp_repr.specs.TypeTrees.{ret_trees, type_tree}
 use Rattle.lp_repr.specs.declared.repr.TypeRepr.{TypeRepr}
 use Rattle.lp_parts.specs.Named.{named, unnamed, unnamed_in, unnamed_of}
