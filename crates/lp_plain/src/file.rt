@@ -1,18 +1,9 @@
-//! A grammar file, from its source to its grammar and states.
+//! A grammar file that was read, or why it wasn't.
 
-ghost use Rattle.std.specs.Prelude.{◌≡◌, ℕ, List, Some, IfOk, IfErr};
-ghost use Rattle.lp_plain.specs.Front.{IsFileFault, IsFront, IsFrontFault, LowersTo, StopsReading, Untabled};
-
-use crate::input::{ReadError, read_all};
-use lp_lines::cut_file;
-use lp_lower::{LowerFault, lower};
-use lp_reading::{BytesFault, plain_of};
 use lp_repr::repr::{Grammar, Symbol};
 use lp_repr::{Items, StartStates, Token};
-use lp_starts::{TablesFault, tables_of};
 use lp_syntax::PlainGrammar;
-use lp_write::Source;
-use std::alloc::{AllocError, Global};
+use std::alloc::AllocError;
 
 /// A grammar file that was read.
 #[derive(Drop)]
@@ -66,87 +57,5 @@ impl From<AllocError> for FrontFault {
 
     fn from(_e: AllocError) -> FrontFault {
         FrontFault::Memory
-    }
-}
-
-/// Reads a source to its end, and gives the grammar that the text before the line `%%` spells, its
-/// lowering, the states of each start, and what follows that line.
-pub fn front<S: Source>(alloc: Global, source: &mut S) -> Result<Front, FrontFault>
-    ensures front { IfOk result (λ f. (bytes : List ℕ) → S.left source.old ≡ Some bytes → IsFront bytes f) }
-    ensures fault { IfErr result (IsFrontFault (S.left source.old) (S.faults source.old) (S.faults source.new)) }
-{
-    match read_all(alloc, source) {
-        Ok(bytes) => front_of(alloc, bytes.as_slice()),
-        Err(error) => Err(unread(error)),
-    }
-}
-
-/// The fault of a source that was not read to its end.
-fn unread(error: ReadError) -> FrontFault
-    ensures { StopsReading error result }
-{
-    match error {
-        ReadError::Fault => FrontFault::ReadFault,
-        ReadError::TooLong => FrontFault::TooLong,
-        ReadError::Memory => FrontFault::Memory,
-    }
-}
-
-/// What the bytes of a file give.
-fn front_of(alloc: Global, bytes: &[u8]) -> Result<Front, FrontFault>
-    ensures front { IfOk result (IsFront bytes.now) }
-    ensures fault { IfErr result IsFileFault }
-{
-    let (text, tail) = cut_file(bytes);
-    let (plain, grammar) = match lowered_of(alloc, text) {
-        Ok(both) => both,
-        Err(BytesFault::Grammar { place }) => return Err(FrontFault::Grammar { place }),
-        Err(BytesFault::Memory) => return Err(FrontFault::Memory),
-    };
-    let tables = match tables_of(alloc, &grammar) {
-        Ok(tables) => tables,
-        Err(fault) => return Err(untabled(fault)),
-    };
-    let tail = Vec::from_slice(alloc, tail)?;
-    Ok(Front {
-        plain,
-        grammar,
-        tables,
-        tail,
-    })
-}
-
-/// The plain grammar that bytes spell, and its lowering. The place of a fault is that of the first
-/// byte of no character, of the error of reading, or of the refusal.
-pub fn lowered_of(alloc: Global, bytes: &[u8]) -> Result<(PlainGrammar, Grammar), BytesFault>
-    ensures { IfOk result (λ both. LowersTo both.0 both.1) }
-{
-    let plain = plain_of(alloc, bytes)?;
-    match lower(alloc, &plain) {
-        Ok(grammar) => Ok((plain, grammar)),
-        Err(fault) => Err(unlowered(fault)),
-    }
-}
-
-/// The fault of a grammar whose lowering is refused.
-fn unlowered(fault: LowerFault) -> BytesFault {
-    match fault {
-        LowerFault::UnknownName { place }
-        | LowerFault::InlineOrder { place }
-        | LowerFault::Duplicate { place }
-        | LowerFault::TooManyProductions { place } => BytesFault::Grammar { place },
-        LowerFault::Memory => BytesFault::Memory,
-    }
-}
-
-/// The fault of a grammar without tables.
-fn untabled(fault: TablesFault) -> FrontFault
-    ensures { Untabled fault.entry result }
-{
-    match fault {
-        TablesFault::BadGrammar { rule, place } => FrontFault::BadGrammar { rule, place },
-        TablesFault::Conflict { start, path, token } => FrontFault::Conflict { start, path, token },
-        TablesFault::TooManyStates { start, paths } => FrontFault::TooManyStates { start, paths },
-        TablesFault::Memory => FrontFault::Memory,
     }
 }

@@ -3,8 +3,9 @@
 
 mod file;
 mod input;
+mod source;
 
-pub use file::{Front, FrontFault, front, lowered_of};
+pub use file::{Front, FrontFault};
 pub use input::{LIMIT, ReadError, read_all};
 pub use lp_lines::{Block, LineFault, TokenLine, append_block, cut_file, read_token_lines};
 pub use lp_lower::{LowerFault, lower};
@@ -17,3 +18,4 @@ pub use lp_states::{BuildFault, build_states};
 pub use lp_syntax::{
     PlainAlternative, PlainGrammar, PlainKind, PlainRule, PlainSymbol, PlainTerminal,
 };
+pub use source::{front, lowered_of};

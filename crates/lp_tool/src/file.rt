@@ -1,6 +1,8 @@
 //! From the bytes of a grammar file to its grammar and states.
 
 ghost use Rattle.std.specs.Prelude.{◌≡◌, [], None, Some, IfOk, IfErr};
+ghost use Rattle.lp_plain.specs.Front.{LowersTo};
+ghost use Rattle.lp_repr.specs.declared.repr.Grammar.{Grammar};
 ghost use Rattle.lp_tool.specs.Causes.{IsOfFile};
 ghost use Rattle.lp_tool.specs.Told.{AreTablesOrNone, Holds, IsFile, Tells, ToldOf};
 
@@ -46,6 +48,7 @@ impl Stop {
     pub fn with(status: Status, grammar: PlainGrammar) -> Stop
         ensures { result.status ≡ status }
         ensures grammar { Holds grammar status result.grammar }
+        ensures told { (g : Grammar) → LowersTo grammar g → ToldOf g status → IsOfFile status → Tells result.grammar [] result.status }
     {
         match status {
             Status::Memory => Stop::bare(status),
