@@ -5,5 +5,6 @@
 pub mod forms;
 pub mod maker;
 pub mod methods;
+pub mod patterns;
 pub mod scope;
 pub mod texts;

@@ -1,0 +1,6 @@
+use Rattle.std.proofs.Common.{◌∙◌}
+use Rattle.lp_maker.proofs.Parsed.{wide_number_parsed}
+use Rattle.lp_maker.proofs.texts.wide_number.Goals as goal
+
+pub returns : goal.returns
+returns c = c.ok.ensures.value ∙ wide_number_parsed c.args.text.now c.parse.result c.parse.ensures.value.0
