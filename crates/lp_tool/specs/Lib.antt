@@ -1,4 +1,3 @@
 pub mod Causes
 pub mod Command
 pub mod Status
-pub mod Told

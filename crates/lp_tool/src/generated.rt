@@ -1,8 +1,7 @@
 //! The generated grammar, emitted and run.
 
-ghost use Rattle.std.specs.Prelude.{[], IfErr, IfOk};
+ghost use Rattle.std.specs.Prelude.{IfErr};
 ghost use Rattle.lp_tool.specs.Causes.{IsOfFile};
-ghost use Rattle.lp_tool.specs.Told.{IsPrepared, Tells};
 
 use crate::file::{Stop, file_of};
 use crate::status::Status;
@@ -21,9 +20,7 @@ const BUDGET: u64 = 1_000_000;
 /// The output of `make`: the number of states, the length of the text, and the calls, outcome and
 /// steps of the program that the text reads as.
 pub fn prepare_generated(alloc: Global, levels: u8) -> Result<Prepared, Stop>
-    ensures stops { IfErr result (λ stop. IsOfFile stop.status) }
-    ensures told { IfErr result (λ stop. Tells stop.grammar [] stop.status) }
-    ensures prepared { IfOk result IsPrepared }
+    ensures { IfErr result (λ stop. IsOfFile stop.status) }
 {
     let Ok(source) = make_text(alloc, u32::from(levels)) else {
         return Err(Stop::bare(Status::Memory));

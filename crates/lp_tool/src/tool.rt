@@ -1,10 +1,8 @@
 //! The tool: words and a source in, text and runs out.
 
-ghost use Rattle.std.specs.Prelude.{◌≡◌, ◌≢◌, [], IfErr, IfOk, OnOk, None};
-ghost use Rattle.lp_emit.specs.Causes.{MayBeEmitted};
+ghost use Rattle.std.specs.Prelude.{◌≡◌, ◌≢◌, IfErr, OnOk, None};
 ghost use Rattle.lp_tool.specs.Command.{command_of};
 ghost use Rattle.lp_tool.specs.Causes.{Causes, IsOfFile, IsOfWriting, IsStop, StopsReading, Wrote};
-ghost use Rattle.lp_tool.specs.Told.{IsFile, IsPrepared, IsRefusal, SaysNothing, Tells, ToldOf};
 
 use crate::command::{Command, read_words};
 use crate::file::{File, Stop, file_of};
@@ -51,7 +49,6 @@ pub fn run_tool<S: Source, K: Sink>(
 ) -> Report
     ensures usage { command_of words.now ≡ None → result.status ≡ Status.Usage }
     ensures causes { Causes words.now (S.left source.old) (S.faults source.old) (S.faults source.new) result.status }
-    ensures told { Tells result.grammar result.tables result.status }
     ensures wrote { Wrote (K.told sink.old) (K.told sink.new) result.status }
 {
     match prepare(alloc, words, source) {
@@ -69,9 +66,7 @@ pub fn run_tool<S: Source, K: Sink>(
 }
 
 fn stopped(alloc: Global, stop: Stop) -> Report
-    ensures status { result.status ≡ stop.status }
-    ensures grammar { result.grammar ≡ stop.grammar }
-    ensures tables { result.tables ≡ [] }
+    ensures { result.status ≡ stop.status }
 {
     Report {
         status: stop.status,
@@ -95,8 +90,6 @@ fn prepare<S: Source>(alloc: Global, words: &[Text], source: &mut S) -> Result<P
     ensures causes { IfErr result (λ stop. Causes words.now (S.left source.old) (S.faults source.old) (S.faults source.new) stop.status) }
     ensures stops { IfErr result (λ stop. IsStop stop.status) }
     ensures goes { OnOk result (command_of words.now ≢ None) }
-    ensures told { IfErr result (λ stop. Tells stop.grammar [] stop.status) }
-    ensures prepared { IfOk result IsPrepared }
 {
     match read_words(words) {
         None => Err(Stop::bare(Status::Usage)),
@@ -115,7 +108,6 @@ fn prepare<S: Source>(alloc: Global, words: &[Text], source: &mut S) -> Result<P
 /// All bytes of the source.
 fn taken<S: Source>(alloc: Global, source: &mut S) -> Result<Vec<u8>, Stop>
     ensures { IfErr result (λ stop. StopsReading (S.left source.old) (S.faults source.old) (S.faults source.new) stop.status) }
-    ensures told { IfErr result (λ stop. Tells stop.grammar [] stop.status) }
 {
     match read_all(alloc, source) {
         Ok(bytes) => Ok(bytes),
@@ -127,9 +119,7 @@ fn taken<S: Source>(alloc: Global, source: &mut S) -> Result<Vec<u8>, Stop>
 
 /// The output of `emit`: the parser text.
 fn prepare_emit(alloc: Global, bytes: &[u8], options: Options) -> Result<Prepared, Stop>
-    ensures stops { IfErr result (λ stop. IsOfFile stop.status) }
-    ensures told { IfErr result (λ stop. Tells stop.grammar [] stop.status) }
-    ensures prepared { IfOk result IsPrepared }
+    ensures { IfErr result (λ stop. IsOfFile stop.status) }
 {
     let file = file_of(alloc, bytes)?;
     match emitted_text(alloc, &file.lowered, file.tables.as_slice(), &options) {
@@ -145,9 +135,7 @@ fn prepare_emit(alloc: Global, bytes: &[u8], options: Options) -> Result<Prepare
 
 /// The output of `run`: the parser text, the line `---`, and the block of each token line.
 fn prepare_run(alloc: Global, bytes: &[u8], options: Options) -> Result<Prepared, Stop>
-    ensures stops { IfErr result (λ stop. IsOfFile stop.status) }
-    ensures told { IfErr result (λ stop. Tells stop.grammar [] stop.status) }
-    ensures prepared { IfOk result IsPrepared }
+    ensures { IfErr result (λ stop. IsOfFile stop.status) }
 {
     let file = file_of(alloc, bytes)?;
     match text_and_runs(alloc, &file, &options) {
@@ -162,10 +150,7 @@ fn prepare_run(alloc: Global, bytes: &[u8], options: Options) -> Result<Prepared
 }
 
 fn text_and_runs(alloc: Global, file: &File, options: &Options) -> Result<(usize, Vec<u8>), Status>
-    requires { IsFile file.now }
-    ensures stops { IfErr result IsOfFile }
-    ensures told { IfErr result (ToldOf file.now.lowered) }
-    ensures emitted { OnOk result (MayBeEmitted file.now.lowered file.now.tables.items) }
+    ensures { IfErr result IsOfFile }
 {
     let lines = token_lines(alloc, &file.lowered, file.tail.as_slice())?;
     let text = match emitted_text(alloc, &file.lowered, file.tables.as_slice(), options) {
@@ -186,8 +171,7 @@ fn text_and_runs(alloc: Global, file: &File, options: &Options) -> Result<(usize
 }
 
 fn token_lines(alloc: Global, grammar: &Grammar, tail: &[u8]) -> Result<Vec<TokenLine>, Status>
-    ensures stops { IfErr result IsOfFile }
-    ensures told { IfErr result (ToldOf grammar.now) }
+    ensures { IfErr result IsOfFile }
 {
     match read_token_lines(alloc, grammar, tail) {
         Ok(lines) => Ok(lines),
@@ -216,8 +200,7 @@ fn joined(text: String, blocks: &[u8]) -> Result<(usize, Vec<u8>), AllocError> {
 
 /// The status that tells of a refused emission.
 pub fn refused(error: EmitError) -> Status
-    ensures stops { IsOfFile result }
-    ensures refusal { IsRefusal error.entry result }
+    ensures { IsOfFile result }
 {
     match error {
         EmitError::Memory => Status::Memory,
@@ -228,8 +211,7 @@ pub fn refused(error: EmitError) -> Status
 /// The status that tells of a text without runs. An emitted text reads, and its token lines name
 /// its starts.
 fn unrun(fault: TextRunFault) -> Status
-    ensures stops { IsOfFile result }
-    ensures told { SaysNothing result }
+    ensures { IsOfFile result }
 {
     match fault {
         TextRunFault::NoStart { line } => Status::TokenLine { line },
