@@ -169,8 +169,7 @@ fn chain<'p>(maker: &mut Maker<'p>, scope: &Scope, form: Form<'p>) -> Result<Exp
         slots: 0,
         body: Expr::plain(Leaf::DefaultLocation),
     })?;
-    let count = form.parts().count();
-    for left in 1..count {
+    for left in 1..part_count(form) {
         let body = end_or(
             maker,
             end,
@@ -197,6 +196,15 @@ fn chain<'p>(maker: &mut Maker<'p>, scope: &Scope, form: Form<'p>) -> Result<Exp
         }
     }
     end_or(maker, end, next, tested, shown, others)
+}
+
+// How many parts stand below a form.
+fn part_count(form: Form<'_>) -> usize {
+    let mut count = 0usize;
+    for _part in form.parts() {
+        count = count.saturating_add(1);
+    }
+    count
 }
 
 // The slots after the first of so many.
