@@ -184,16 +184,14 @@ fn chain<'p>(maker: &mut Maker<'p>, scope: &Scope, form: Form<'p>) -> Result<Exp
             body,
         })?;
     }
+    let mut rows = form.parts();
+    let (tested, shown) = match rows.next() {
+        None => (Expr::stuck(), Expr::stuck()),
+        Some(row) => (top_slot(maker, scope, row)?, top_slot(maker, scope, row)?),
+    };
     let mut others = Vec::new(maker.alloc);
-    let mut tested = Expr::stuck();
-    let mut shown = Expr::stuck();
-    for (i, row) in form.parts().enumerate() {
-        if i == 0 {
-            tested = top_slot(maker, scope, row)?;
-            shown = top_slot(maker, scope, row)?;
-        } else {
-            others.push(top_slot(maker, scope, row)?)?;
-        }
+    for row in rows {
+        others.push(top_slot(maker, scope, row)?)?;
     }
     end_or(maker, end, next, tested, shown, others)
 }
