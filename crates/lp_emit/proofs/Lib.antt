@@ -1,2 +1,3 @@
 pub mod Firsts
+pub mod Modules
 pub mod Shifts

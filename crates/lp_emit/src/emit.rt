@@ -1,7 +1,8 @@
 //! The emission of a whole text.
 
-ghost use Rattle.std.specs.Prelude.{◌≡◌, ℕ, List, OnOk, IfErr, MatchResult};
+ghost use Rattle.std.specs.Prelude.{◌≡◌, ℕ, List, OnOk, IfOk, IfErr, MatchResult, string_bytes};
 ghost use Rattle.lp_emit.specs.Causes.{AfterRefusal, MayBeEmitted, Refuses, RefusesToWrite};
+ghost use Rattle.lp_emit.specs.Texts.{IsEmission, text_of};
 ghost use Rattle.lp_emit.specs.declared.errors.EmitError.TheVariants.{Memory};
 ghost use Rattle.lp_write.specs.Sinks.{Took};
 
@@ -25,8 +26,8 @@ pub fn emit_parsers<K: Sink>(
     options: &Options,
     sink: &mut K,
 ) -> Result<(), EmitError>
-    // A text is appended whole, and then none of the causes holds.
-    ensures whole { OnOk result ((text : List ℕ) × Took (K.told sink.old) (K.told sink.new) text) }
+    // The text of the program that is built is appended whole, and then none of the causes holds.
+    ensures whole { OnOk result ((text : List ℕ) × IsEmission grammar.now states.now options.now text × Took (K.told sink.old) (K.told sink.new) text) }
     ensures passes { OnOk result (MayBeEmitted grammar.now states.now) }
 
     // A refusal tells its cause. A part of a text is appended at a write fault, and else nothing.
@@ -47,27 +48,48 @@ pub fn emitted_text(
     states: &[StartStates],
     options: &Options,
 ) -> Result<String, EmitError>
-    ensures { MatchResult result (λ _. MayBeEmitted grammar.now states.now) (Refuses grammar.now states.now) }
+    ensures cause { MatchResult result (λ _. MayBeEmitted grammar.now states.now) (Refuses grammar.now states.now) }
+    ensures text { IfOk result (λ text. IsEmission grammar.now states.now options.now (string_bytes text)) }
 {
     check(alloc, grammar, states)?;
     let program = build_program(alloc, grammar, states)?;
     printed(alloc, &program, *options)
 }
 
-/// The lines of a program, measured first.
+/// The text of a program, made in as much memory as it takes.
 fn printed(alloc: Global, program: &Program<'_>, options: Options) -> Result<String, EmitError>
+    ensures memory { IfErr result (λ error. error ≡ Memory) }
+    ensures text { IfOk result (λ text. string_bytes text ≡ text_of options program.now) }
+{
+    let room = measured(alloc, program, options)?;
+    let bytes = written(alloc, program, options, room)?;
+    String::from_utf8(bytes).map_err(|_| EmitError::Memory)
+}
+
+/// The length of the text of a program.
+fn measured(alloc: Global, program: &Program<'_>, options: Options) -> Result<usize, EmitError>
     ensures { IfErr result (λ error. error ≡ Memory) }
 {
     let mut measure = RustWrite::new(CountSink::new(), options);
     print_program(alloc, program, &mut measure).map_err(as_memory)?;
-    let total = measure.into_inner().total();
-    let room = usize::try_from(total).map_err(|_| EmitError::Memory)?;
+    usize::try_from(measure.into_inner().total()).map_err(|_| EmitError::Memory)
+}
+
+/// The bytes of the text of a program, if so many are enough.
+fn written(
+    alloc: Global,
+    program: &Program<'_>,
+    options: Options,
+    room: usize,
+) -> Result<Vec<u8>, EmitError>
+    ensures memory { IfErr result (λ error. error ≡ Memory) }
+    ensures bytes { IfOk result (λ bytes. bytes.items ≡ text_of options program.now) }
+{
     let failing = Vec::new(alloc);
     let sink = MemorySink::new(alloc, room, usize::MAX, failing)?;
     let mut text = RustWrite::new(sink, options);
     print_program(alloc, program, &mut text).map_err(as_memory)?;
-    let bytes = text.into_inner().into_bytes();
-    String::from_utf8(bytes).map_err(|_| EmitError::Memory)
+    Ok(text.into_inner().into_bytes())
 }
 
 /// A sink in memory with room for the whole text doesn't fail.

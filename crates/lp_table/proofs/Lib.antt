@@ -1,0 +1,4 @@
+pub mod TreeTexts
+pub mod MachineFields
+pub mod CatchAll
+pub mod Members

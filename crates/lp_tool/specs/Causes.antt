@@ -14,11 +14,11 @@ Causes words left old new TooLong = (command_of words ≢ None) × IsTooLong lef
 Causes words left old new ReadFault = (command_of words ≢ None) × Rose old new
 Causes words left old new _ = command_of words ≢ None
 
--- what was written: all of an output, a part of one, or nothing
-abbrev pub Wrote : Told → Told → Status → Type 0
-Wrote old new Done = (output : List ℕ) × Took old new output
-Wrote old new WriteFault = (output : List ℕ) × Broke old new output
-Wrote old new _ = new ≡ old
+-- all of an output was written, or a part of it
+abbrev pub Written : Told → Told → List ℕ → Status → Type 0
+Written old new output Done = Took old new output
+Written old new output WriteFault = Broke old new output
+Written old new output _ = ⊥
 
 -- a status of a call that wrote
 abbrev pub IsOfWriting : Status → Type 0

@@ -1,3 +1,5 @@
 pub mod Causes
 pub mod Command
 pub mod Status
+pub mod Outputs
+pub mod Told

@@ -1,7 +1,10 @@
 //! From the bytes of a grammar file to its grammar and states.
 
-ghost use Rattle.std.specs.Prelude.{◌≡◌, IfErr};
+ghost use Rattle.std.specs.Prelude.{◌≡◌, ℕ, List, None, Some, IfOk, IfErr};
+ghost use Rattle.lp_plain.specs.Front.{LowersTo};
+ghost use Rattle.lp_repr.specs.declared.repr.Grammar.{Grammar};
 ghost use Rattle.lp_tool.specs.Causes.{IsOfFile};
+ghost use Rattle.lp_tool.specs.Told.{AreTablesOrNone, Holds, IsFile, Tells, ToldOf};
 
 use crate::status::Status;
 use lp_plain::{BytesFault, PlainGrammar, TablesFault, cut_file, lowered_of, tables_of};
@@ -32,7 +35,8 @@ pub struct Stop {
 impl Stop {
     /// An answer before a grammar is there.
     pub fn bare(status: Status) -> Stop
-        ensures { result.status ≡ status }
+        ensures status { result.status ≡ status }
+        ensures grammar { result.grammar ≡ None }
     {
         Stop {
             status,
@@ -42,7 +46,9 @@ impl Stop {
 
     /// An answer with the plain grammar that was lowered.
     pub fn with(status: Status, grammar: PlainGrammar) -> Stop
-        ensures { result.status ≡ status }
+        ensures status { result.status ≡ status }
+        ensures grammar { Holds grammar status result.grammar }
+        ensures told { (g : Grammar) → LowersTo grammar g → ToldOf g status → IsOfFile status → Tells result.grammar result.status }
     {
         match status {
             Status::Memory => Stop::bare(status),
@@ -56,7 +62,9 @@ impl Stop {
 
 /// The grammar file that the bytes are.
 pub fn file_of(alloc: Global, bytes: &[u8]) -> Result<File, Stop>
-    ensures { IfErr result (λ stop. IsOfFile stop.status) }
+    ensures file { IfOk result (IsFile bytes.now) }
+    ensures stops { IfErr result (λ stop. IsOfFile stop.status) }
+    ensures told { IfErr result (λ stop. Tells stop.grammar stop.status) }
 {
     let (text, tail) = cut_file(bytes);
     let (plain, lowered) = match lowered_of(alloc, text) {
@@ -76,7 +84,8 @@ pub fn file_of(alloc: Global, bytes: &[u8]) -> Result<File, Stop>
 
 /// The answer on bytes that spell no plain grammar, or one whose lowering is refused.
 fn unread(fault: BytesFault) -> Stop
-    ensures { IsOfFile result.status }
+    ensures stops { IsOfFile result.status }
+    ensures told { Tells result.grammar result.status }
 {
     match fault {
         BytesFault::Grammar { place } => Stop::bare(Status::Grammar { place }),
@@ -89,7 +98,10 @@ fn tables_and_tail(
     grammar: &Grammar,
     tail: &[u8],
 ) -> Result<(Vec<StartStates>, Vec<u8>), Status>
-    ensures { IfErr result IsOfFile }
+    ensures tables { IfOk result (λ both. AreTablesOrNone grammar.now both.0.items) }
+    ensures tail { IfOk result (λ both. both.1.items ≡ tail.now) }
+    ensures stops { IfErr result IsOfFile }
+    ensures told { IfErr result (ToldOf grammar.now) }
 {
     let tables = tables_or_none(alloc, grammar)?;
     match Vec::from_slice(alloc, tail) {
@@ -100,7 +112,9 @@ fn tables_and_tail(
 
 /// The states of each start, in key order; none where the grammar isn't valid.
 fn tables_or_none(alloc: Global, grammar: &Grammar) -> Result<Vec<StartStates>, Status>
-    ensures { IfErr result IsOfFile }
+    ensures tables { IfOk result (λ v. AreTablesOrNone grammar.now v.items) }
+    ensures stops { IfErr result IsOfFile }
+    ensures told { IfErr result (ToldOf grammar.now) }
 {
     match tables_of(alloc, grammar) {
         Ok(tables) => Ok(tables),

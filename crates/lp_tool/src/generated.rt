@@ -1,7 +1,8 @@
 //! The generated grammar, emitted and run.
 
-ghost use Rattle.std.specs.Prelude.{IfErr};
+ghost use Rattle.std.specs.Prelude.{ℕ, List, Option, Some, IfErr, IfOk};
 ghost use Rattle.lp_tool.specs.Causes.{IsOfFile};
+ghost use Rattle.lp_tool.specs.Told.{IsPrepared, Tells};
 
 use crate::file::{Stop, file_of};
 use crate::status::Status;
@@ -20,7 +21,9 @@ const BUDGET: u64 = 1_000_000;
 /// The output of `make`: the number of states, the length of the text, and the calls, outcome and
 /// steps of the program that the text reads as.
 pub fn prepare_generated(alloc: Global, levels: u8) -> Result<Prepared, Stop>
-    ensures { IfErr result (λ stop. IsOfFile stop.status) }
+    ensures stops { IfErr result (λ stop. IsOfFile stop.status) }
+    ensures told { IfErr result (λ stop. Tells stop.grammar stop.status) }
+    ensures prepared { (left : Option (List ℕ)) → IfOk result (IsPrepared (Some (Command.Make levels)) left) }
 {
     let Ok(source) = make_text(alloc, u32::from(levels)) else {
         return Err(Stop::bare(Status::Memory));

@@ -1,6 +1,8 @@
 //! The runs of a parser text.
 
-ghost use Rattle.std.specs.Prelude.{◌≡◌};
+ghost use Rattle.std.specs.Prelude.{◌≡◌, ◌++◌, [], length, string_bytes, IfOk, OnOk, None, Some};
+ghost use Rattle.lp_lines.specs.Blocks.{block_text};
+ghost use Rattle.lp_tool.specs.Outputs.{AreBlocks, Course};
 
 use lp_driver::RunError;
 use lp_plain::{Block, TokenLine, append_block};
@@ -39,7 +41,9 @@ pub fn run_text(
     text: &str,
     lines: &[TokenLine],
     params: &[Text],
-) -> Result<Vec<u8>, TextRunFault> {
+) -> Result<Vec<u8>, TextRunFault>
+    ensures { IfOk result (λ blocks. AreBlocks lines.now (length lines.now) blocks.items) }
+{
     let program = match read_program(alloc, text) {
         Ok(program) => program,
         Err(ReadFault::NoForm { line }) => return Err(TextRunFault::NoForm { line }),
@@ -59,7 +63,9 @@ fn run_line(
     line: &TokenLine,
     params: &[Text],
     out: &mut String,
-) -> Result<(), TextRunFault> {
+) -> Result<(), TextRunFault>
+    ensures { OnOk result ((course : Course) × (string_bytes out.new ≡ string_bytes out.old ++ block_text number line.now.start course.events course.outcome (Some course.steps))) }
+{
     let start = line.start.as_str();
     let items = line.items.as_slice();
     let failing = line.failing.as_slice();
@@ -74,7 +80,9 @@ fn run_line(
 }
 
 /// Appends the block of a run.
-fn append_run(out: &mut String, number: u64, start: &str, run: &Run) -> Result<(), AllocError> {
+fn append_run(out: &mut String, number: u64, start: &str, run: &Run) -> Result<(), AllocError>
+    ensures { OnOk result (string_bytes out.new ≡ string_bytes out.old ++ block_text number start.now run.now.events (Some run.now.outcome) (Some run.now.steps)) }
+{
     let events = run.events.as_slice();
     let outcome = Some(&run.outcome);
     let block = Block {
@@ -88,7 +96,9 @@ fn append_run(out: &mut String, number: u64, start: &str, run: &Run) -> Result<(
 }
 
 /// Appends the block of a run that is stuck.
-fn append_stuck(out: &mut String, number: u64, start: &str, steps: u64) -> Result<(), AllocError> {
+fn append_stuck(out: &mut String, number: u64, start: &str, steps: u64) -> Result<(), AllocError>
+    ensures { OnOk result (string_bytes out.new ≡ string_bytes out.old ++ block_text number start.now [] None (Some steps)) }
+{
     let outcome = None;
     let block = Block {
         number,

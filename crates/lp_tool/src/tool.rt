@@ -1,8 +1,11 @@
 //! The tool: words and a source in, text and runs out.
 
-ghost use Rattle.std.specs.Prelude.{◌≡◌, ◌≢◌, IfErr, OnOk, None};
+ghost use Rattle.std.specs.Prelude.{◌≡◌, ◌≢◌, ◌++◌, ◌∷◌, ℕ, List, [], length, codes, string_bytes, IfErr, IfOk, OnOk, None, Some};
+ghost use Rattle.lp_emit.specs.Causes.{MayBeEmitted};
 ghost use Rattle.lp_tool.specs.Command.{command_of};
-ghost use Rattle.lp_tool.specs.Causes.{Causes, IsOfFile, IsOfWriting, IsStop, StopsReading, Wrote};
+ghost use Rattle.lp_tool.specs.Causes.{Causes, IsOfFile, IsOfWriting, IsStop, StopsReading, Written};
+ghost use Rattle.lp_tool.specs.Outputs.{AreLinesOf, IsRunOutput};
+ghost use Rattle.lp_tool.specs.Told.{AreTablesOrNone, IsPrepared, IsRefusal, SaysNothing, Tells, ToldOf, Wrote};
 
 use crate::command::{Command, read_words};
 use crate::file::{File, Stop, file_of};
@@ -49,7 +52,9 @@ pub fn run_tool<S: Source, K: Sink>(
 ) -> Report
     ensures usage { command_of words.now ≡ None → result.status ≡ Status.Usage }
     ensures causes { Causes words.now (S.left source.old) (S.faults source.old) (S.faults source.new) result.status }
-    ensures wrote { Wrote (K.told sink.old) (K.told sink.new) result.status }
+    ensures told { Tells result.grammar result.status }
+    ensures wrote { Wrote (command_of words.now) (S.left source.old) result.grammar result.tables result.text_len (K.told sink.old) (K.told sink.new) result.status }
+    ensures nothing { IsStop result.status → (result.tables ≡ []) × (result.text_len ≡ 0) }
 {
     match prepare(alloc, words, source) {
         Err(stop) => stopped(alloc, stop),
@@ -66,7 +71,10 @@ pub fn run_tool<S: Source, K: Sink>(
 }
 
 fn stopped(alloc: Global, stop: Stop) -> Report
-    ensures { result.status ≡ stop.status }
+    ensures status { result.status ≡ stop.status }
+    ensures grammar { result.grammar ≡ stop.grammar }
+    ensures tables { result.tables ≡ [] }
+    ensures length { result.text_len ≡ 0 }
 {
     Report {
         status: stop.status,
@@ -77,7 +85,7 @@ fn stopped(alloc: Global, stop: Stop) -> Report
 }
 
 fn written<K: Sink>(sink: &mut K, output: &[u8]) -> Status
-    ensures wrote { Wrote (K.told sink.old) (K.told sink.new) result }
+    ensures wrote { Written (K.told sink.old) (K.told sink.new) output.now result }
     ensures ended { IsOfWriting result }
 {
     match write_all(sink, output) {
@@ -90,6 +98,8 @@ fn prepare<S: Source>(alloc: Global, words: &[Text], source: &mut S) -> Result<P
     ensures causes { IfErr result (λ stop. Causes words.now (S.left source.old) (S.faults source.old) (S.faults source.new) stop.status) }
     ensures stops { IfErr result (λ stop. IsStop stop.status) }
     ensures goes { OnOk result (command_of words.now ≢ None) }
+    ensures told { IfErr result (λ stop. Tells stop.grammar stop.status) }
+    ensures prepared { IfOk result (IsPrepared (command_of words.now) (S.left source.old)) }
 {
     match read_words(words) {
         None => Err(Stop::bare(Status::Usage)),
@@ -107,7 +117,9 @@ fn prepare<S: Source>(alloc: Global, words: &[Text], source: &mut S) -> Result<P
 
 /// All bytes of the source.
 fn taken<S: Source>(alloc: Global, source: &mut S) -> Result<Vec<u8>, Stop>
-    ensures { IfErr result (λ stop. StopsReading (S.left source.old) (S.faults source.old) (S.faults source.new) stop.status) }
+    ensures bytes { IfOk result (λ v. (bytes : List ℕ) → S.left source.old ≡ Some bytes → v.items ≡ bytes) }
+    ensures stops { IfErr result (λ stop. StopsReading (S.left source.old) (S.faults source.old) (S.faults source.new) stop.status) }
+    ensures told { IfErr result (λ stop. Tells stop.grammar stop.status) }
 {
     match read_all(alloc, source) {
         Ok(bytes) => Ok(bytes),
@@ -119,7 +131,9 @@ fn taken<S: Source>(alloc: Global, source: &mut S) -> Result<Vec<u8>, Stop>
 
 /// The output of `emit`: the parser text.
 fn prepare_emit(alloc: Global, bytes: &[u8], options: Options) -> Result<Prepared, Stop>
-    ensures { IfErr result (λ stop. IsOfFile stop.status) }
+    ensures stops { IfErr result (λ stop. IsOfFile stop.status) }
+    ensures told { IfErr result (λ stop. Tells stop.grammar stop.status) }
+    ensures prepared { IfOk result (IsPrepared (Some (Command.Emit options)) (Some bytes.now)) }
 {
     let file = file_of(alloc, bytes)?;
     match emitted_text(alloc, &file.lowered, file.tables.as_slice(), &options) {
@@ -135,7 +149,9 @@ fn prepare_emit(alloc: Global, bytes: &[u8], options: Options) -> Result<Prepare
 
 /// The output of `run`: the parser text, the line `---`, and the block of each token line.
 fn prepare_run(alloc: Global, bytes: &[u8], options: Options) -> Result<Prepared, Stop>
-    ensures { IfErr result (λ stop. IsOfFile stop.status) }
+    ensures stops { IfErr result (λ stop. IsOfFile stop.status) }
+    ensures told { IfErr result (λ stop. Tells stop.grammar stop.status) }
+    ensures prepared { IfOk result (IsPrepared (Some (Command.Run options)) (Some bytes.now)) }
 {
     let file = file_of(alloc, bytes)?;
     match text_and_runs(alloc, &file, &options) {
@@ -150,7 +166,11 @@ fn prepare_run(alloc: Global, bytes: &[u8], options: Options) -> Result<Prepared
 }
 
 fn text_and_runs(alloc: Global, file: &File, options: &Options) -> Result<(usize, Vec<u8>), Status>
-    ensures { IfErr result IsOfFile }
+    requires { AreTablesOrNone file.now.lowered file.now.tables.items }
+    ensures stops { IfErr result IsOfFile }
+    ensures told { IfErr result (ToldOf file.now.lowered) }
+    ensures emitted { OnOk result (MayBeEmitted file.now.lowered file.now.tables.items) }
+    ensures output { IfOk result (λ both. IsRunOutput file.now.lowered file.now.tables.items options.now file.now.tail.items both.0 both.1.items) }
 {
     let lines = token_lines(alloc, &file.lowered, file.tail.as_slice())?;
     let text = match emitted_text(alloc, &file.lowered, file.tables.as_slice(), options) {
@@ -171,7 +191,9 @@ fn text_and_runs(alloc: Global, file: &File, options: &Options) -> Result<(usize
 }
 
 fn token_lines(alloc: Global, grammar: &Grammar, tail: &[u8]) -> Result<Vec<TokenLine>, Status>
-    ensures { IfErr result IsOfFile }
+    ensures lines { IfOk result (λ lines. AreLinesOf grammar.now tail.now lines.items) }
+    ensures stops { IfErr result IsOfFile }
+    ensures told { IfErr result (ToldOf grammar.now) }
 {
     match read_token_lines(alloc, grammar, tail) {
         Ok(lines) => Ok(lines),
@@ -190,7 +212,10 @@ pub fn parameter_values(alloc: Global, grammar: &Grammar) -> Result<Vec<Text>, A
 }
 
 /// The text, the line `---`, and the blocks.
-fn joined(text: String, blocks: &[u8]) -> Result<(usize, Vec<u8>), AllocError> {
+fn joined(text: String, blocks: &[u8]) -> Result<(usize, Vec<u8>), AllocError>
+    ensures length { IfOk result (λ both. both.0 ≡ length (string_bytes text)) }
+    ensures whole { IfOk result (λ both. both.1.items ≡ string_bytes text ++ (codes "---" ++ 10 ∷ blocks.now)) }
+{
     let text_len = text.len();
     let mut output = text.into_bytes();
     output.extend_from_slice(b"---\n")?;
@@ -200,7 +225,8 @@ fn joined(text: String, blocks: &[u8]) -> Result<(usize, Vec<u8>), AllocError> {
 
 /// The status that tells of a refused emission.
 pub fn refused(error: EmitError) -> Status
-    ensures { IsOfFile result }
+    ensures stops { IsOfFile result }
+    ensures refusal { IsRefusal error result }
 {
     match error {
         EmitError::Memory => Status::Memory,
@@ -211,7 +237,8 @@ pub fn refused(error: EmitError) -> Status
 /// The status that tells of a text without runs. An emitted text reads, and its token lines name
 /// its starts.
 fn unrun(fault: TextRunFault) -> Status
-    ensures { IsOfFile result }
+    ensures stops { IsOfFile result }
+    ensures told { SaysNothing result }
 {
     match fault {
         TextRunFault::NoStart { line } => Status::TokenLine { line },
