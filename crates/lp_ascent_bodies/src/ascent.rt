@@ -211,7 +211,7 @@ fn shift_arm<'p>(
         Expr::read(token)
     } else {
         let names = parted(maker.alloc, line.hole(2), ", ")?;
-        captured(maker, token, line.hole(0), names)?
+        captured(maker, token, line.hole(0), names.as_slice())?
     };
     let end = Expr::read(start.saturating_add(2));
     let triple = vec![in maker.alloc; Expr::read(start), value, end]?;

@@ -1,0 +1,9 @@
+pub mod Actions
+pub mod Lines
+pub mod Arms
+pub mod Inlining
+pub mod Reductions
+pub mod Trials
+pub mod Tables
+pub mod MachineMethods
+pub mod Source

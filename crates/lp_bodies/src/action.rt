@@ -1,27 +1,59 @@
 //! Action functions.
 
-use lp_core::{Expr, Function, Join, Op, Tag};
+ghost use Rattle.std.specs.Prelude.{◌≡◌, IfOk, OnOk};
+ghost use Rattle.std.specs.Option.{option_map};
+ghost use Rattle.lp_view.specs.PartLists.{listed};
+ghost use Rattle.lp_maker.specs.Texts.{binding};
+ghost use Rattle.lp_maker.specs.Making.{making, with_text};
+ghost use Rattle.lp_bodies.specs.Actions.{can_fail, fallible_row, is_fallible, is_own, is_parameter, counted_row, parameter_count, takes, code_of, user_call, body_of, plain_body, action_body, found_body, headed, action_function, with_code, with_found_code, with_action};
+
+use crate::inlining::inline_body;
+use lp_core::{Expr, Function, Join};
 use lp_form::Part;
-use lp_maker::forms::{Form, first, second};
+use lp_maker::forms::{Form, first, is_a, second};
 use lp_maker::maker::Maker;
 use lp_maker::scope::Scope;
-use lp_maker::texts::{Bound, bound_by, numbered};
-use lp_repr::Text;
-use std::alloc::AllocError;
+use lp_maker::texts::{Bound, begins, bound_by, holds};
+use lp_repr::{Text, norm};
+use std::alloc::{AllocError, Global};
 
 /// The function of one action.
-pub fn action_fn<'p>(maker: &mut Maker<'p>, form: Form<'p>) -> Result<Function, AllocError> {
+pub fn action_fn<'p>(maker: &mut Maker<'p>, form: Form<'p>) -> Result<Function, AllocError>
+    ensures function { IfOk result (λ f. f ≡ action_function (making maker.old) (listed form.entry)) }
+    ensures made { OnOk result (making maker.new ≡ with_action (listed form.entry) (making maker.old)) }
+{
     match first(form) {
         None => Ok(maker.function(0, &Scope::new(maker.alloc), Expr::stuck())),
-        Some(header) => {
-            let mut scope = maker.parameters(header)?;
-            let params = scope.slots();
-            let body = match second(form) {
-                None => Expr::stuck(),
-                Some(body) => action_body(maker, &mut scope, header, body)?,
-            };
-            Ok(maker.function(params, &scope, body))
-        }
+        Some(header) => headed(maker, header, second(form)),
+    }
+}
+
+fn headed<'p>(
+    maker: &mut Maker<'p>,
+    header: Form<'p>,
+    body: Option<Form<'p>>,
+) -> Result<Function, AllocError>
+    ensures function { IfOk result (λ f. f ≡ headed (making maker.old) (listed header.entry) (option_map listed body.entry)) }
+    ensures made { OnOk result (making maker.new ≡ with_found_code (option_map listed body.entry) (making maker.old)) }
+{
+    let mut scope = maker.parameters(header)?;
+    let params = scope.slots();
+    let value = found_body(maker, &mut scope, header, body)?;
+    Ok(maker.function(params, &scope, value))
+}
+
+fn found_body<'p>(
+    maker: &mut Maker<'p>,
+    scope: &mut Scope,
+    header: Form<'p>,
+    body: Option<Form<'p>>,
+) -> Result<Expr, AllocError>
+    ensures body { IfOk result (λ v. body_of v scope.new ≡ found_body (making maker.old) (listed header.entry) scope.old (option_map listed body.entry)) }
+    ensures made { OnOk result (making maker.new ≡ with_found_code (option_map listed body.entry) (making maker.old)) }
+{
+    match body {
+        None => Ok(Expr::stuck()),
+        Some(body) => action_body(maker, scope, header, body),
     }
 }
 
@@ -30,13 +62,29 @@ fn action_body<'p>(
     scope: &mut Scope,
     header: Form<'p>,
     body: Form<'p>,
-) -> Result<Expr, AllocError> {
-    match body.part() {
-        Part::UserBody => user_call(maker, scope, header, body),
-        Part::LookaheadBody => Ok(maker.name(scope, "~lookahead")),
-        Part::LookbehindBody => Ok(maker.name(scope, "~lookbehind")),
-        Part::InlineBody => inline_body(maker, scope, body),
-        _ => Ok(Expr::stuck()),
+) -> Result<Expr, AllocError>
+    ensures body { IfOk result (λ v. body_of v scope.new ≡ action_body (making maker.old) (listed header.entry) scope.old (listed body.entry)) }
+    ensures made { OnOk result (making maker.new ≡ with_code (listed body.entry) (making maker.old)) }
+{
+    if is_a(Part::UserBody, body) {
+        user_call(maker, scope, header, body)
+    } else {
+        plain_body(maker, scope, body)
+    }
+}
+
+// The lookahead, the lookbehind, or calls of inlined actions.
+fn plain_body<'p>(maker: &Maker<'p>, scope: &mut Scope, body: Form<'p>) -> Result<Expr, AllocError>
+    ensures { IfOk result (λ v. body_of v scope.new ≡ plain_body (making maker.now) scope.old (listed body.entry)) }
+{
+    if is_a(Part::LookaheadBody, body) {
+        Ok(maker.name(scope, "~lookahead"))
+    } else if is_a(Part::LookbehindBody, body) {
+        Ok(maker.name(scope, "~lookbehind"))
+    } else if is_a(Part::InlineBody, body) {
+        inline_body(maker, scope, body)
+    } else {
+        Ok(Expr::stuck())
     }
 }
 
@@ -46,165 +94,97 @@ fn user_call<'p>(
     scope: &Scope,
     header: Form<'p>,
     body: Form<'p>,
-) -> Result<Expr, AllocError> {
-    let code = maker.text(normal(maker, body.hole(0))?)?;
-    let mut args = Vec::new(maker.alloc);
-    for slot in 0..scope.slots() {
-        args.push(Expr::take(slot))?;
-    }
+) -> Result<Expr, AllocError>
+    ensures value { IfOk result (λ v. v ≡ user_call (making maker.old) (listed header.entry) scope.now) }
+    ensures made { OnOk result (making maker.new ≡ with_text (code_of (listed body.entry)) (making maker.old)) }
+{
+    let code = Text::from_str(maker.alloc, norm(body.hole(0)))?;
+    let code = maker.text(code)?;
+    let args = takes(maker.alloc, scope.slots())?;
+    let fallible = is_fallible(header);
+    let params = parameter_count(maker.prefix, header);
     let join = Join::Event {
         code,
-        fallible: is_fallible(header),
-        params: grammar_parameters(maker, header)?,
+        fallible,
+        params,
     };
     Ok(Expr::join(join, args))
 }
 
-// A code without leading blanks; `()` where nothing is left.
-fn normal<'p>(maker: &Maker<'p>, code: &str) -> Result<Text, AllocError> {
-    let code = code.trim_start();
-    if code.is_empty() {
-        Text::from_str(maker.alloc, "()")
-    } else {
-        Text::from_str(maker.alloc, code)
-    }
-}
-
-// Whether the result is one that can fail.
-fn is_fallible(header: Form<'_>) -> bool {
-    let mut fallible = false;
-    for row in header.parts() {
-        if row.part() == Part::ResultType {
-            fallible = row.hole(0).starts_with("Result<")
-                && row.hole(0).contains("lalrpop_util::ParseError<");
-        }
-    }
-    fallible
-}
-
-// How many parameters the grammar has: those with a name that isn't the form's own.
-fn grammar_parameters<'p>(maker: &Maker<'p>, header: Form<'p>) -> Result<usize, AllocError> {
-    let mut count = 0usize;
-    for row in header.parts() {
-        if row.part() == Part::ParameterRow {
-            if let Bound::Named(name) = bound_by(row.hole(0)) {
-                if !name.starts_with(maker.prefix) {
-                    count = count.saturating_add(1);
-                }
-            }
-        }
-    }
-    Ok(count)
-}
-
-fn inline_body<'p>(
-    maker: &mut Maker<'p>,
-    scope: &mut Scope,
-    body: Form<'p>,
-) -> Result<Expr, AllocError> {
-    let mut parts = Vec::new(maker.alloc);
-    for line in body.parts() {
-        match line.part() {
-            Part::InlineSpan => inline_span(maker, scope, line, &mut parts)?,
-            Part::InlineCall | Part::InlineCallTyped => inline_call(
-                maker, scope, line, &mut parts,
-            )?,
-            Part::OuterCall | Part::OuterCallTyped => {
-                let call = outer_call(maker, scope, line)?;
-                parts.push(call)?;
-            }
-            Part::OuterCallOk | Part::OuterCallOkTyped => {
-                let call = outer_call(maker, scope, line)?;
-                parts.push(maker.apply(Op::Wrap(Tag::Success), call)?)?;
-            }
-            _ => parts.push(Expr::stuck())?,
-        }
-    }
-    Ok(Expr::block(parts))
-}
-
-fn inline_span<'p>(
-    maker: &Maker<'p>,
-    scope: &mut Scope,
-    line: Form<'p>,
-    parts: &mut Vec<Expr>,
-) -> Result<(), AllocError> {
-    let start_value = place_of(maker, scope, line.hole(1))?;
-    let name = numbered(maker.alloc, "~start", line.hole(0))?;
-    let start = scope.bind(maker.alloc, name.as_str())?;
-    parts.push(maker.write(start, start_value)?)?;
-    let end_value = place_of(maker, scope, line.hole(2))?;
-    let name = numbered(maker.alloc, "~end", line.hole(0))?;
-    let end = scope.bind(maker.alloc, name.as_str())?;
-    parts.push(maker.write(end, end_value)?)?;
-    Ok(())
-}
-
-// `~j.0`, `~j.2`, `*~lookbehind` or `*~lookahead`.
-fn place_of<'p>(maker: &Maker<'p>, scope: &Scope, text: &str) -> Result<Expr, AllocError> {
-    if let Some(name) = text.strip_prefix('*') {
-        return maker.written(scope, name);
-    }
-    match text.split_once(".") {
-        None => Ok(Expr::stuck()),
-        Some((name, part)) => {
-            let value = maker.written(scope, name)?;
-            if part.starts_with("0") {
-                maker.apply(Op::Part(0), value)
-            } else if part.starts_with("2") {
-                maker.apply(Op::Part(2), value)
-            } else {
-                Ok(Expr::stuck())
-            }
-        }
-    }
-}
-
-fn call_arguments<'p>(
-    maker: &Maker<'p>,
-    scope: &Scope,
-    line: Form<'p>,
-) -> Result<Vec<Expr>, AllocError> {
-    let mut args = Vec::new(maker.alloc);
-    for row in line.parts() {
-        if row.part() == Part::ArgumentRow {
-            args.push(maker.written(scope, row.hole(0))?)?;
-        }
+/// The first slots, each for the last time.
+#[tactic(auto, using(crate::proofs::Takes::takes_next))]
+pub fn takes(alloc: Global, count: usize) -> Result<Vec<Expr>, AllocError>
+    ensures { IfOk result (λ args. args.items ≡ takes count) }
+{
+    let mut args = Vec::new(alloc);
+    for slot in 0..count {
+        args.push(Expr::take(slot))?;
     }
     Ok(args)
 }
 
-fn outer_call<'p>(maker: &Maker<'p>, scope: &Scope, line: Form<'p>) -> Result<Expr, AllocError> {
-    let args = call_arguments(maker, scope, line)?;
-    maker.call("super::action", line.hole(0), args)
+// Whether a printed type is a result with a parse error.
+fn can_fail(answer: &str) -> bool
+    ensures { result ≡ can_fail answer.now }
+{
+    begins("Result<", answer) && holds("lalrpop_util::ParseError<", answer)
 }
 
-fn inline_call<'p>(
-    maker: &Maker<'p>,
-    scope: &mut Scope,
-    line: Form<'p>,
-    parts: &mut Vec<Expr>,
-) -> Result<(), AllocError> {
-    let args = call_arguments(maker, scope, line)?;
-    let mut call = maker.call("super::action", line.hole(1), args)?;
-    for row in line.parts() {
-        if row.part() == Part::CallEndFallible {
-            call = maker.tried(scope, call)?;
-            break;
-        }
+// Whether the function of this header can fail.
+fn is_fallible(header: Form<'_>) -> bool
+    ensures { result ≡ is_fallible (listed header.entry) }
+{
+    let mut fallible = false;
+    for row in header.parts() {
+        fallible = fallible_row(fallible, row);
     }
-    let name = numbered(maker.alloc, "~temp", line.hole(0))?;
-    let value = scope.bind(maker.alloc, name.as_str())?;
-    parts.push(maker.write(value, call)?)?;
-    let start = numbered(maker.alloc, "~start", line.hole(0))?;
-    let end = numbered(maker.alloc, "~end", line.hole(0))?;
-    let triple = vec![in maker.alloc;
-        maker.name(scope, start.as_str()),
-        Expr::take(value),
-        maker.name(scope, end.as_str()),
-    ]?;
-    let triple = Expr::join(Join::Make(Tag::Tuple), triple);
-    let slot = scope.bind(maker.alloc, name.as_str())?;
-    parts.push(maker.write(slot, triple)?)?;
-    Ok(())
+    fallible
+}
+
+fn fallible_row(before: bool, row: Form<'_>) -> bool
+    ensures { result ≡ fallible_row before (listed row.entry) }
+{
+    if is_a(Part::ResultType, row) {
+        can_fail(row.hole(0))
+    } else {
+        before
+    }
+}
+
+// How many parameters of the grammar this header has: those with a name that isn't the form's own.
+fn parameter_count(prefix: &str, header: Form<'_>) -> usize
+    ensures { result ≡ parameter_count prefix.now (listed header.entry) }
+{
+    let mut count = 0usize;
+    for row in header.parts() {
+        count = counted_row(prefix, count, row);
+    }
+    count
+}
+
+fn counted_row(prefix: &str, count: usize, row: Form<'_>) -> usize
+    ensures { result ≡ counted_row prefix.now count (listed row.entry) }
+{
+    if is_parameter(prefix, row) {
+        count.saturating_add(1)
+    } else {
+        count
+    }
+}
+
+fn is_parameter(prefix: &str, row: Form<'_>) -> bool
+    ensures { result ≡ is_parameter prefix.now (listed row.entry) }
+{
+    is_a(Part::ParameterRow, row) && is_own(prefix, bound_by(row.hole(0)))
+}
+
+// Whether a name is the grammar's own.
+fn is_own(prefix: &str, bound: Bound<'_>) -> bool
+    ensures { result ≡ is_own prefix.now (binding bound.entry) }
+{
+    match bound {
+        Bound::Nothing => false,
+        Bound::Triple => false,
+        Bound::Named(name) => !begins(prefix, name),
+    }
 }

@@ -3,7 +3,11 @@
 #![tactic(auto)]
 
 pub mod action;
+pub mod arms;
+mod inlining;
+pub mod lines;
 pub mod methods;
 pub mod reduce;
 pub mod source;
 pub mod table;
+pub mod trial;

@@ -1,218 +1,116 @@
-//! Reductions of table-driven code, and the machine's own trials.
+//! Reductions of table-driven code.
 
-use crate::table::eof_entry;
-use lp_core::{Expr, Function, Join, Leaf, Op, StateType, Tag, Test};
+ghost use Rattle.std.specs.Prelude.{◌≡◌, Some, length, IfOk, OnOk};
+ghost use Rattle.std.specs.Option.{option_map};
+ghost use Rattle.lp_view.specs.PartLists.{hole_of, listed};
+ghost use Rattle.lp_maker.specs.Making.{making, with_function, with_variant};
+ghost use Rattle.lp_bodies.specs.Arms.{gathered};
+ghost use Rattle.lp_bodies.specs.Lines.{lines_of};
+ghost use Rattle.lp_bodies.specs.Reductions.{work_of, symbols, assert_line, pop_line, symbol_side, span_popped, span_at, part_function, with_last_end, last_end_number, empty_place, span_empty, reduced_call, checked, called_value, called_names, call_line, start_line, symbol_triple, push_line, is_call, quiet_line, reduce_line, reduce_lines, done_of, reduce_body, found_body, arm_call, reduce_arm, type_row, element_type, vec_type, slice_type, arming_of, is_arm, arm_row, with_arm, reduce_row, reduce_from, states, push_next, top_of, after_state, reduced, reduce_with, reduce_function, with_reduce, production_function, with_production_of, reduce_fn, with_reduce_fn, mismatch, pop_match, pop_lines, pop_function};
+
+use crate::arms::Arms;
+use crate::lines::push_let;
+use crate::source::{default_location, function};
+pub use crate::trial::{accepts, answer_if, production_of, simulate_reduce, state_at};
+use lp_core::{Expr, Function, Join, Op, StateType, Tag, Test};
 use lp_form::Part;
-use lp_maker::forms::{Form, first, second};
+use lp_maker::forms::{Form, first, is_a, second};
 use lp_maker::maker::{Maker, here};
 use lp_maker::scope::Scope;
-use lp_maker::texts::{number, numbered, state_type, wide_number};
+use lp_maker::texts::{cut_at, number, numbered, state_type_of, without_end};
 use std::alloc::AllocError;
 
-/// What a reduction would do.
-pub fn simulate_reduce<'p>(maker: &mut Maker<'p>, form: Form<'p>) -> Result<Function, AllocError> {
-    let mut scope = Scope::new(maker.alloc);
-    let mut params = 0;
-    let mut cases = Vec::new(maker.alloc);
-    let mut bodies = Vec::new(maker.alloc);
-    for row in form.parts() {
-        if row.part() == Part::SimulateAccept || row.part() == Part::SimulateArm {
-            if let Some(n) = wide_number(row.hole(0)) {
-                cases.push(here(Test::Between(n, n), bodies.len()))?;
-            }
-            bodies.push(if row.part() == Part::SimulateAccept {
-                Expr::plain(Leaf::Empty(Tag::Accept))
-            } else {
-                let pop = maker.index(number(row.hole(1)));
-                let nonterminal = maker.index(number(row.hole(2)));
-                maker.pair(Join::Make(Tag::Reduce), pop, nonterminal)?
-            })?;
-        } else {
-            scope = maker.parameters(row)?;
-            params = scope.slots();
-        }
-    }
-    bodies.push(Expr::stuck())?;
-    let slot = scope.fresh();
-    let index = maker.name(&scope, "~reduce_index");
-    let body = Expr::select(maker.alloc, index, slot, cases, bodies)?;
-    Ok(maker.function(params, &scope, body))
-}
-
-/// Returns a truth value where a test holds.
-pub fn answer_if<'p>(
-    maker: &Maker<'p>,
-    test: Op,
-    slot: usize,
-    answer: bool,
-) -> Result<Expr, AllocError> {
-    let test = maker.apply(test, Expr::read(slot))?;
-    let back = maker.give_back(Expr::plain(Leaf::Bool(answer)))?;
-    Expr::choose(
-        maker.alloc,
-        test,
-        back,
-        Expr::plain(Leaf::Empty(Tag::Tuple)),
-    )
-}
-
-/// `-(~action + 1)`.
-pub fn production_of<'p>(maker: &Maker<'p>, action: usize) -> Result<Expr, AllocError> {
-    let next = maker.apply(Op::Successor, Expr::read(action))?;
-    maker.apply(Op::Negate, next)
-}
-
-/// A state of a list, by an index, where the state type is one.
-pub fn state_at<'p>(
-    maker: &Maker<'p>,
-    kind: Option<StateType>,
-    states: usize,
-    index: Expr,
-) -> Result<Expr, AllocError> {
-    match kind {
-        None => Ok(Expr::stuck()),
-        Some(kind) => maker.pair(Join::StateAt(kind), Expr::read(states), index),
-    }
-}
-
-/// Whether a stack of states accepts a token: `kind` is the printed state type.
-pub fn accepts<'p>(maker: &mut Maker<'p>, header: Form<'p>) -> Result<Function, AllocError> {
-    let mut scope = maker.parameters(header)?;
-    let params = scope.slots();
-    let kind = list_type(header);
-    let given = maker.name(&scope, "~states");
-    let copy = maker.apply(Op::CopyStates, given)?;
-    let states = scope.bind(maker.alloc, "~states")?;
-    let copied = maker.write(states, copy)?;
-    let extra = maker.name(&scope, "~error_state");
-    let extended = maker.pair(Join::Extend, Expr::read(states), extra)?;
-    let turn = trial_turn(maker, &mut scope, kind, states)?;
-    let turns = Expr::repeat(maker.alloc, turn)?;
-    let body = Expr::block(vec![in maker.alloc; copied, extended, turns]?);
-    Ok(maker.function(params, &scope, body))
-}
-
-// The state type of the parameter that is a slice of states.
-fn list_type(header: Form<'_>) -> Option<StateType> {
-    element_type(header, "states: &[", ']')
-}
-
-/// The state type of the parameter that is a list of states.
-pub fn vec_type(header: Form<'_>) -> Option<StateType> {
-    element_type(header, "states: &mut alloc::vec::Vec<", '>')
-}
-
-fn element_type(header: Form<'_>, before: &str, after: char) -> Option<StateType> {
-    let mut kind = None;
-    for row in header.parts() {
-        if row.part() == Part::ParameterRow {
-            if let Some((_, rest)) = row.hole(0).split_once(before) {
-                kind = state_type(rest.trim_end_matches(after));
-            }
-        }
-    }
-    kind
-}
-
-fn trial_turn<'p>(
-    maker: &mut Maker<'p>,
-    scope: &mut Scope,
-    kind: Option<StateType>,
-    states: usize,
-) -> Result<Expr, AllocError> {
-    let length = scope.fresh();
-    let top = scope.fresh();
-    let action = scope.fresh();
-    let integer = scope.fresh();
-    let mut parts = Vec::new(maker.alloc);
-    let measured = maker.apply(Op::Length, Expr::read(states))?;
-    parts.push(maker.write(length, measured)?)?;
-    let last = maker.apply(Op::Predecessor, Expr::read(length))?;
-    parts.push(maker.write(top, state_at(maker, kind, states, last)?)?)?;
-    let opt_integer = maker.name(scope, "~opt_integer");
-    let at_end = eof_entry(maker, Expr::read(top))?;
-    let args = vec![in maker.alloc; Expr::read(top), Expr::read(integer)]?;
-    let at_token = maker.call("action", "", args)?;
-    let entry = maker.on_option(opt_integer, integer, at_end, at_token)?;
-    parts.push(maker.write(action, entry)?)?;
-    parts.push(answer_if(maker, Op::IsZero, action, false)?)?;
-    parts.push(answer_if(maker, Op::IsPositive, action, true)?)?;
-    let args = vec![in maker.alloc; production_of(maker, action)?]?;
-    let simulated = maker.call("simulate_reduce", "", args)?;
-    let (pop, unpacked) = simulated_parts(maker, scope, simulated)?;
-    parts.push(unpacked)?;
-    let less = maker.pair(Join::Subtract, Expr::read(length), Expr::read(pop))?;
-    parts.push(maker.write(length, less)?)?;
-    parts.push(maker.pair(Join::Truncate, Expr::read(states), Expr::read(length))?)?;
-    push_goto(
-        maker,
-        scope,
-        kind,
-        states,
-        pop.saturating_add(1),
-        length,
-        &mut parts,
-    )?;
-    Ok(Expr::block(parts))
-}
-
-// The two parts of a simulated reduction; true is returned where it accepts.
-fn simulated_parts<'p>(
-    maker: &Maker<'p>,
-    scope: &mut Scope,
-    simulated: Expr,
-) -> Result<(usize, Expr), AllocError> {
-    let slot = scope.fresh();
-    let back = maker.give_back(Expr::plain(Leaf::Bool(true)))?;
-    let (pop, open) = maker.unpack(scope, 2, Expr::take(slot))?;
-    let unpacked = maker.on_tags(simulated, slot, (Tag::Accept, back), (Tag::Reduce, open))?;
-    Ok((pop, unpacked))
-}
-
-// Pushes the goto of the state below the place where the list was cut.
-fn push_goto<'p>(
-    maker: &Maker<'p>,
-    scope: &mut Scope,
-    kind: Option<StateType>,
-    states: usize,
-    nonterminal: usize,
-    length: usize,
-    parts: &mut Vec<Expr>,
-) -> Result<(), AllocError> {
-    let top = scope.fresh();
-    let last = maker.apply(Op::Predecessor, Expr::read(length))?;
-    parts.push(maker.write(top, state_at(maker, kind, states, last)?)?)?;
-    let args = vec![in maker.alloc; Expr::read(top), Expr::read(nonterminal)]?;
-    let next = maker.call("goto", "", args)?;
-    parts.push(maker.pair(Join::Push, Expr::read(states), next)?)?;
-    Ok(())
-}
-
 /// The reductions by production.
-pub fn reduce<'p>(maker: &mut Maker<'p>, form: Form<'p>) -> Result<Function, AllocError> {
-    let mut scope = Scope::new(maker.alloc);
-    let mut params = 0;
+pub fn reduce<'p>(maker: &mut Maker<'p>, form: Form<'p>) -> Result<Function, AllocError>
+    ensures function { IfOk result (λ f. f ≡ reduce_function (making maker.old) (listed form.entry)) }
+    ensures made { OnOk result (making maker.new ≡ with_reduce (listed form.entry) (making maker.old)) }
+{
+    let mut arms = Arms::new(maker.alloc);
+    let kind = reduce_rows(maker, form, &mut arms)?;
+    reduce_with(maker, kind, arms)
+}
+
+// The arms and the state type that the rows give.
+fn reduce_rows<'p>(
+    maker: &mut Maker<'p>,
+    form: Form<'p>,
+    arms: &mut Arms,
+) -> Result<Option<StateType>, AllocError>
+    ensures { IfOk result (λ kind. arming_of (gathered arms.new) kind (making maker.new) ≡ reduce_from (gathered arms.old) (making maker.old) (listed form.entry)) }
+{
     let mut kind = None;
-    let mut cases = Vec::new(maker.alloc);
-    let mut bodies = Vec::new(maker.alloc);
     for row in form.parts() {
-        if row.part() == Part::ReduceCallArm || row.part() == Part::ReduceBodyArm {
-            if let Some(n) = wide_number(row.hole(0)) {
-                cases.push(here(Test::Between(n, n), bodies.len()))?;
-            }
-            bodies.push(reduce_arm(maker, &mut scope, row)?)?;
-        } else {
-            scope = maker.parameters(row)?;
-            params = scope.slots();
-            kind = vec_type(row);
-        }
+        kind = reduce_row(maker, arms, kind, row)?;
     }
-    bodies.push(Expr::stuck())?;
-    let slot = scope.fresh();
-    let action = maker.name(&scope, "~action");
-    let produced = Expr::select(maker.alloc, action, slot, cases, bodies)?;
+    Ok(kind)
+}
+
+// A row is an arm, or the header.
+fn reduce_row<'p>(
+    maker: &mut Maker<'p>,
+    arms: &mut Arms,
+    kind: Option<StateType>,
+    row: Form<'p>,
+) -> Result<Option<StateType>, AllocError>
+    ensures { IfOk result (λ next. arming_of (gathered arms.new) next (making maker.new) ≡ reduce_row (arming_of (gathered arms.old) kind (making maker.old)) (listed row.entry)) }
+{
+    if is_arm(row) {
+        arm_row(maker, arms, row)?;
+        Ok(kind)
+    } else {
+        arms.header(maker, row)?;
+        Ok(vec_type(row))
+    }
+}
+
+fn is_arm(row: Form<'_>) -> bool
+    ensures { result ≡ is_arm (listed row.entry) }
+{
+    is_a(Part::ReduceCallArm, row) || is_a(Part::ReduceBodyArm, row)
+}
+
+fn arm_row<'p>(maker: &mut Maker<'p>, arms: &mut Arms, row: Form<'p>) -> Result<(), AllocError>
+    ensures arms { OnOk result (gathered arms.new ≡ arm_row (making maker.old) (listed row.entry) (gathered arms.old)) }
+    ensures made { OnOk result (making maker.new ≡ with_arm (listed row.entry) (gathered arms.old) (making maker.old)) }
+{
+    let body = reduce_arm(maker, &mut arms.scope, row)?;
+    arms.number_case(row.hole(0))?;
+    arms.body(body)
+}
+
+// The function of what the arms produce.
+fn reduce_with<'p>(
+    maker: &Maker<'p>,
+    kind: Option<StateType>,
+    arms: Arms,
+) -> Result<Function, AllocError>
+    ensures { IfOk result (λ f. f ≡ reduce_with (making maker.now) kind (gathered arms)) }
+{
+    let action = maker.name(&arms.scope, "~action");
+    let (params, mut scope, produced) = arms.choice(maker.alloc, action, Expr::stuck())?;
     let body = reduced(maker, &mut scope, kind, produced)?;
     Ok(maker.function(params, &scope, body))
+}
+
+fn states<'p>(maker: &Maker<'p>, scope: &Scope) -> Expr
+    ensures { result ≡ states scope.now }
+{
+    maker.name(scope, "~states")
+}
+
+fn symbols<'p>(maker: &Maker<'p>, scope: &Scope) -> Expr
+    ensures { result ≡ symbols scope.now }
+{
+    maker.name(scope, "~symbols")
+}
+
+fn top_of<'p>(maker: &Maker<'p>, kind: Option<StateType>, list: Expr) -> Result<Expr, AllocError>
+    ensures { IfOk result (λ v. v ≡ top_of kind list) }
+{
+    match kind {
+        None => Ok(Expr::stuck()),
+        Some(kind) => maker.apply(Op::Top(kind), list),
+    }
 }
 
 // Takes the states of what was reduced off, and pushes the goto.
@@ -221,103 +119,223 @@ fn reduced<'p>(
     scope: &mut Scope,
     kind: Option<StateType>,
     produced: Expr,
-) -> Result<Expr, AllocError> {
-    let mut parts = Vec::new(maker.alloc);
+) -> Result<Expr, AllocError>
+    ensures value { IfOk result (λ v. v ≡ reduced (making maker.now) scope.old kind produced) }
+    ensures names { OnOk result (scope.new ≡ after_state scope.old) }
+{
     let (pop, unpacked) = maker.unpack(scope, 2, produced)?;
-    parts.push(unpacked)?;
     let length = scope.fresh();
-    let measured = maker.apply(Op::Length, maker.name(scope, "~states"))?;
-    parts.push(maker.write(length, measured)?)?;
-    let cut = maker.pair(Join::Subtract, Expr::read(length), Expr::read(pop))?;
-    parts.push(maker.pair(Join::Truncate, maker.name(scope, "~states"), cut)?)?;
     let state = scope.fresh();
-    let top = match kind {
-        None => Expr::stuck(),
-        Some(kind) => maker.apply(Op::Top(kind), maker.name(scope, "~states"))?,
-    };
-    parts.push(maker.write(state, top)?)?;
-    let args = vec![in maker.alloc; Expr::read(state), Expr::read(pop.saturating_add(1))]?;
-    let next = maker.call("goto", "", args)?;
-    parts.push(maker.pair(Join::Push, maker.name(scope, "~states"), next)?)?;
-    parts.push(maker.absent())?;
+    let measured = maker.apply(Op::Length, states(maker, scope))?;
+    let measured = maker.write(length, measured)?;
+    let cut = maker.pair(Join::Subtract, Expr::read(length), Expr::read(pop))?;
+    let truncated = maker.pair(Join::Truncate, states(maker, scope), cut)?;
+    let top = top_of(maker, kind, states(maker, scope))?;
+    let top = maker.write(state, top)?;
+    let pushed = push_next(maker, scope, state, pop.saturating_add(1))?;
+    let parts = vec![in maker.alloc; unpacked, measured, truncated, top, pushed, maker.absent()]?;
     Ok(Expr::block(parts))
 }
 
+// Pushes the goto of a state and a nonterminal in slots.
+fn push_next<'p>(
+    maker: &Maker<'p>,
+    scope: &Scope,
+    state: usize,
+    nonterminal: usize,
+) -> Result<Expr, AllocError>
+    ensures { IfOk result (λ v. v ≡ push_next (making maker.now) scope.now state nonterminal) }
+{
+    let args = vec![in maker.alloc; Expr::read(state), Expr::read(nonterminal)]?;
+    let next = maker.call("goto", "", args)?;
+    maker.pair(Join::Push, states(maker, scope), next)
+}
+
+// What an arm does.
 fn reduce_arm<'p>(
     maker: &mut Maker<'p>,
     scope: &mut Scope,
     row: Form<'p>,
-) -> Result<Expr, AllocError> {
-    if row.part() == Part::ReduceCallArm {
-        let mut args = Vec::new(maker.alloc);
-        maker.arguments(scope, row.hole(1), &mut args)?;
-        args.push(maker.name(scope, "~lookahead_start"))?;
-        args.push(maker.name(scope, "~symbols"))?;
-        return maker.call("reduce", row.hole(0), args);
+) -> Result<Expr, AllocError>
+    ensures { IfOk result (λ v. done_of v scope.new (making maker.new) ≡ reduce_arm (making maker.old) scope.old (listed row.entry)) }
+{
+    if is_a(Part::ReduceCallArm, row) {
+        arm_call(maker, scope, row)
+    } else {
+        found_body(maker, scope, first(row))
     }
-    match first(row) {
+}
+
+// A call of the function of one production.
+fn arm_call<'p>(maker: &Maker<'p>, scope: &Scope, row: Form<'p>) -> Result<Expr, AllocError>
+    ensures { IfOk result (λ v. v ≡ arm_call (making maker.now) scope.now (listed row.entry)) }
+{
+    let mut args = Vec::new(maker.alloc);
+    maker.arguments(scope, row.hole(1), &mut args)?;
+    args.push(maker.name(scope, "~lookahead_start"))?;
+    args.push(symbols(maker, scope))?;
+    maker.call("reduce", row.hole(0), args)
+}
+
+/// The function of one production.
+pub fn reduce_fn<'p>(maker: &mut Maker<'p>, form: Form<'p>) -> Result<Function, AllocError>
+    ensures function { IfOk result (λ f. f ≡ reduce_fn (making maker.old) (listed form.entry)) }
+    ensures made { OnOk result (making maker.new ≡ with_reduce_fn (listed form.entry) (making maker.old)) }
+{
+    match first(form) {
+        None => Ok(maker.function(0, &Scope::new(maker.alloc), Expr::stuck())),
+        Some(header) => production(maker, header, second(form)),
+    }
+}
+
+fn production<'p>(
+    maker: &mut Maker<'p>,
+    header: Form<'p>,
+    body: Option<Form<'p>>,
+) -> Result<Function, AllocError>
+    ensures function { IfOk result (λ f. f ≡ production_function (making maker.old) (Some (listed header.entry)) (option_map listed body.entry)) }
+    ensures made { OnOk result (making maker.new ≡ with_production_of (Some (listed header.entry)) (option_map listed body.entry) (making maker.old)) }
+{
+    let mut scope = maker.parameters(header)?;
+    let params = scope.slots();
+    let value = found_body(maker, &mut scope, body)?;
+    Ok(maker.function(params, &scope, value))
+}
+
+// The reduction of one production, if its lines are there.
+fn found_body<'p>(
+    maker: &mut Maker<'p>,
+    scope: &mut Scope,
+    body: Option<Form<'p>>,
+) -> Result<Expr, AllocError>
+    ensures { IfOk result (λ v. done_of v scope.new (making maker.new) ≡ found_body (making maker.old) scope.old (option_map listed body.entry)) }
+{
+    match body {
         None => Ok(Expr::stuck()),
         Some(body) => reduce_body(maker, scope, body),
     }
 }
 
-/// The function of one production.
-pub fn reduce_fn<'p>(maker: &mut Maker<'p>, form: Form<'p>) -> Result<Function, AllocError> {
-    match first(form) {
-        None => Ok(maker.function(0, &Scope::new(maker.alloc), Expr::stuck())),
-        Some(header) => {
-            let mut scope = maker.parameters(header)?;
-            let params = scope.slots();
-            let body = match second(form) {
-                None => Expr::stuck(),
-                Some(body) => reduce_body(maker, &mut scope, body)?,
-            };
-            Ok(maker.function(params, &scope, body))
-        }
-    }
-}
-
-// The reduction of one production.
+// The reduction of one production, in a block of its own.
 fn reduce_body<'p>(
     maker: &mut Maker<'p>,
     scope: &mut Scope,
     form: Form<'p>,
-) -> Result<Expr, AllocError> {
+) -> Result<Expr, AllocError>
+    ensures { IfOk result (λ v. done_of v scope.new (making maker.new) ≡ reduce_body (making maker.old) scope.old (listed form.entry)) }
+{
     let mark = scope.open();
-    let mut parts = Vec::new(maker.alloc);
-    for line in form.parts() {
-        match line.part() {
-            Part::AssertLine => {
-                let length = maker.apply(Op::Length, maker.name(scope, "~symbols"))?;
-                let least = maker.index(number(line.hole(0)));
-                let test = maker.pair(Join::AtLeast, length, least)?;
-                parts.push(maker.apply(Op::Assert, test)?)?;
-            }
-            Part::PopLine => {
-                let args = vec![in maker.alloc; maker.name(scope, "~symbols")]?;
-                let popped = maker.call("pop_", line.hole(1), args)?;
-                let name = numbered(maker.alloc, "~sym", line.hole(0))?;
-                let slot = scope.bind(maker.alloc, name.as_str())?;
-                parts.push(maker.write(slot, popped)?)?;
-            }
-            Part::SpanPopped => span_popped(maker, scope, line, &mut parts)?,
-            Part::SpanEmpty => span_empty(maker, scope, &mut parts)?,
-            Part::CallPlain | Part::CallFallible => {
-                let value = action_call(maker, scope, line)?;
-                let slot = scope.bind(maker.alloc, "~nt")?;
-                parts.push(maker.write(slot, value)?)?;
-            }
-            Part::OutcomeStart => {
-                let good = maker.apply(Op::Wrap(Tag::Success), maker.name(scope, "~nt"))?;
-                let some = maker.apply(Op::Wrap(Tag::Present), good)?;
-                parts.push(maker.give_back(some)?)?;
-            }
-            Part::OutcomePush => outcome_push(maker, scope, line, &mut parts)?,
-            _ => parts.push(Expr::stuck())?,
-        }
-    }
+    let parts = reduce_lines(maker, scope, form)?;
     scope.close(mark);
     Ok(Expr::block(parts))
+}
+
+fn reduce_lines<'p>(
+    maker: &mut Maker<'p>,
+    scope: &mut Scope,
+    form: Form<'p>,
+) -> Result<Vec<Expr>, AllocError>
+    ensures { IfOk result (λ parts. work_of (lines_of scope.new parts.items) (making maker.new) ≡ reduce_lines (making maker.old) scope.old (listed form.entry)) }
+{
+    let mut parts = Vec::new(maker.alloc);
+    for line in form.parts() {
+        reduce_line(maker, scope, line, &mut parts)?;
+    }
+    Ok(parts)
+}
+
+// A line of a reduction.
+fn reduce_line<'p>(
+    maker: &mut Maker<'p>,
+    scope: &mut Scope,
+    line: Form<'p>,
+    parts: &mut Vec<Expr>,
+) -> Result<(), AllocError>
+    ensures { OnOk result (work_of (lines_of scope.new parts.new.items) (making maker.new) ≡ reduce_line (work_of (lines_of scope.old parts.old.items) (making maker.old)) (listed line.entry)) }
+{
+    if is_a(Part::SpanEmpty, line) {
+        span_empty(maker, scope, parts)
+    } else if is_a(Part::OutcomePush, line) {
+        push_line(maker, scope, line, parts)
+    } else {
+        quiet_line(maker, scope, line, parts)
+    }
+}
+
+fn is_call(line: Form<'_>) -> bool
+    ensures { result ≡ is_call (listed line.entry) }
+{
+    is_a(Part::CallPlain, line) || is_a(Part::CallFallible, line)
+}
+
+// A line that makes nothing but lines.
+fn quiet_line<'p>(
+    maker: &Maker<'p>,
+    scope: &mut Scope,
+    line: Form<'p>,
+    parts: &mut Vec<Expr>,
+) -> Result<(), AllocError>
+    ensures { OnOk result (lines_of scope.new parts.new.items ≡ quiet_line (making maker.now) (listed line.entry) (lines_of scope.old parts.old.items)) }
+{
+    if is_a(Part::AssertLine, line) {
+        assert_line(maker, scope, line, parts)
+    } else if is_a(Part::PopLine, line) {
+        pop_line(maker, scope, line, parts)
+    } else if is_a(Part::SpanPopped, line) {
+        span_popped(maker, scope, line, parts)
+    } else if is_call(line) {
+        call_line(maker, scope, line, parts)
+    } else if is_a(Part::OutcomeStart, line) {
+        start_line(maker, scope, parts)
+    } else {
+        parts.push(Expr::stuck())?;
+        Ok(())
+    }
+}
+
+// `assert!(~symbols.len() >= n);`.
+fn assert_line<'p>(
+    maker: &Maker<'p>,
+    scope: &Scope,
+    line: Form<'p>,
+    parts: &mut Vec<Expr>,
+) -> Result<(), AllocError>
+    ensures { OnOk result (lines_of scope.now parts.new.items ≡ assert_line (listed line.entry) (lines_of scope.now parts.old.items)) }
+{
+    let length = maker.apply(Op::Length, symbols(maker, scope))?;
+    let least = maker.index(number(line.hole(0)));
+    let test = maker.pair(Join::AtLeast, length, least)?;
+    let line = maker.apply(Op::Assert, test)?;
+    parts.push(line)?;
+    Ok(())
+}
+
+// `let ~symN = ~pop_V(~symbols);`.
+fn pop_line<'p>(
+    maker: &Maker<'p>,
+    scope: &mut Scope,
+    line: Form<'p>,
+    parts: &mut Vec<Expr>,
+) -> Result<(), AllocError>
+    ensures { OnOk result (lines_of scope.new parts.new.items ≡ pop_line (making maker.now) (listed line.entry) (lines_of scope.old parts.old.items)) }
+{
+    let args = vec![in maker.alloc; symbols(maker, scope)]?;
+    let popped = maker.call("pop_", line.hole(1), args)?;
+    push_let(maker, scope, "~sym", line.hole(0), popped, parts)?;
+    Ok(())
+}
+
+// A side of the symbol of this number.
+fn symbol_side<'p>(
+    maker: &Maker<'p>,
+    scope: &Scope,
+    place: usize,
+    number: &str,
+) -> Result<Expr, AllocError>
+    ensures { IfOk result (λ v. v ≡ symbol_side place number.now scope.now) }
+{
+    let name = numbered(maker.alloc, "~sym", number)?;
+    maker.apply(Op::Part(place), maker.name(scope, name.as_str()))
 }
 
 /// `let ~start = ~symi.0.clone(); let ~end = ~symj.2.clone();`.
@@ -326,15 +344,13 @@ pub fn span_popped<'p>(
     scope: &mut Scope,
     line: Form<'p>,
     parts: &mut Vec<Expr>,
-) -> Result<(), AllocError> {
-    let first = numbered(maker.alloc, "~sym", line.hole(0))?;
-    let last = numbered(maker.alloc, "~sym", line.hole(1))?;
-    let start_value = maker.apply(Op::Part(0), maker.name(scope, first.as_str()))?;
-    let start = scope.bind(maker.alloc, "~start")?;
-    parts.push(maker.write(start, start_value)?)?;
-    let end_value = maker.apply(Op::Part(2), maker.name(scope, last.as_str()))?;
-    let end = scope.bind(maker.alloc, "~end")?;
-    parts.push(maker.write(end, end_value)?)?;
+) -> Result<(), AllocError>
+    ensures { OnOk result (lines_of scope.new parts.new.items ≡ span_popped (listed line.entry) (lines_of scope.old parts.old.items)) }
+{
+    let start = symbol_side(maker, scope, 0, line.hole(0))?;
+    push_let(maker, scope, "~start", "", start, parts)?;
+    let end = symbol_side(maker, scope, 2, line.hole(1))?;
+    push_let(maker, scope, "~end", "", end, parts)?;
     Ok(())
 }
 
@@ -344,11 +360,11 @@ pub fn span_at<'p>(
     scope: &mut Scope,
     value: Expr,
     parts: &mut Vec<Expr>,
-) -> Result<(), AllocError> {
-    let start = scope.bind(maker.alloc, "~start")?;
-    parts.push(maker.write(start, value)?)?;
-    let end = scope.bind(maker.alloc, "~end")?;
-    parts.push(maker.write(end, Expr::read(start))?)?;
+) -> Result<(), AllocError>
+    ensures { OnOk result (lines_of scope.new parts.new.items ≡ span_at value (lines_of scope.old parts.old.items)) }
+{
+    let start = push_let(maker, scope, "~start", "", value, parts)?;
+    push_let(maker, scope, "~end", "", Expr::read(start), parts)?;
     Ok(())
 }
 
@@ -357,102 +373,228 @@ fn span_empty<'p>(
     maker: &mut Maker<'p>,
     scope: &mut Scope,
     parts: &mut Vec<Expr>,
-) -> Result<(), AllocError> {
+) -> Result<(), AllocError>
+    ensures lines { OnOk result (lines_of scope.new parts.new.items ≡ span_empty (making maker.old) (lines_of scope.old parts.old.items)) }
+    ensures made { OnOk result (making maker.new ≡ with_last_end (making maker.old)) }
+{
+    let last_end = last_end_closure(maker)?;
+    let slot = scope.fresh();
+    let value = empty_place(maker, scope, last_end, slot)?;
+    span_at(maker, scope, value, parts)
+}
+
+// `|| ~symbols.last().map(|x| x.2)`.
+fn last_end_closure<'p>(maker: &mut Maker<'p>) -> Result<usize, AllocError>
+    ensures number { IfOk result (λ n. n ≡ last_end_number (making maker.old)) }
+    ensures made { OnOk result (making maker.new ≡ with_last_end (making maker.old)) }
+{
     let end = part_closure(maker, 2)?;
     let last = maker.apply(Op::Last, Expr::read(0))?;
     let args = vec![in maker.alloc; Expr::read(1)]?;
     let located = maker.apply(Op::Wrap(Tag::Present), Expr::call(end, args))?;
     let body = maker.on_option(last, 1, maker.absent(), located)?;
-    let or_else = maker.closure(Function {
-        params: 1,
-        slots: 1,
-        body,
-    })?;
-    let slot = scope.fresh();
-    let args = vec![in maker.alloc; maker.name(scope, "~symbols")]?;
+    maker.closure(function(1, 1, body))
+}
+
+fn empty_place<'p>(
+    maker: &Maker<'p>,
+    scope: &Scope,
+    last_end: usize,
+    slot: usize,
+) -> Result<Expr, AllocError>
+    ensures { IfOk result (λ v. v ≡ empty_place last_end slot scope.now) }
+{
+    let args = vec![in maker.alloc; symbols(maker, scope)]?;
     let else_value = maker.on_option(
-        Expr::call(or_else, args),
+        Expr::call(last_end, args),
         slot,
-        Expr::plain(Leaf::DefaultLocation),
+        default_location(),
         Expr::read(slot),
     )?;
     let start = maker.name(scope, "~lookahead_start");
-    let value = maker.on_option(start, slot, else_value, Expr::read(slot))?;
-    span_at(maker, scope, value, parts)
+    maker.on_option(start, slot, else_value, Expr::read(slot))
 }
 
 /// The closure that answers a part of its argument.
-pub fn part_closure<'p>(maker: &mut Maker<'p>, part: usize) -> Result<usize, AllocError> {
+pub fn part_closure<'p>(maker: &mut Maker<'p>, part: usize) -> Result<usize, AllocError>
+    ensures number { IfOk result (λ n. n ≡ length (making maker.old).functions) }
+    ensures made { OnOk result (making maker.new ≡ with_function (Some (part_function part)) (making maker.old)) }
+{
     let body = maker.apply(Op::Part(part), Expr::read(0))?;
-    maker.closure(Function {
-        params: 1,
-        slots: 0,
-        body,
-    })
+    maker.closure(function(1, 0, body))
 }
 
-fn action_call<'p>(
+// `let ~nt = ..;`.
+fn call_line<'p>(
     maker: &Maker<'p>,
     scope: &mut Scope,
     line: Form<'p>,
-) -> Result<Expr, AllocError> {
+    parts: &mut Vec<Expr>,
+) -> Result<(), AllocError>
+    ensures { OnOk result (lines_of scope.new parts.new.items ≡ call_line (making maker.now) (listed line.entry) (lines_of scope.old parts.old.items)) }
+{
+    let value = called_value(maker, scope, line)?;
+    push_let(maker, scope, "~nt", "", value, parts)?;
+    Ok(())
+}
+
+fn called_value<'p>(
+    maker: &Maker<'p>,
+    scope: &mut Scope,
+    line: Form<'p>,
+) -> Result<Expr, AllocError>
+    ensures value { IfOk result (λ v. v ≡ called_value (making maker.now) (listed line.entry) scope.old) }
+    ensures names { OnOk result (scope.new ≡ called_names (listed line.entry) scope.old) }
+{
+    let call = reduced_call(maker, scope, line)?;
+    if is_a(Part::CallPlain, line) {
+        Ok(call)
+    } else {
+        let slot = scope.fresh();
+        checked(maker, slot, call)
+    }
+}
+
+// The call of the action of a line.
+fn reduced_call<'p>(maker: &Maker<'p>, scope: &Scope, line: Form<'p>) -> Result<Expr, AllocError>
+    ensures { IfOk result (λ v. v ≡ reduced_call (making maker.now) (listed line.entry) scope.now) }
+{
     let mut args = Vec::new(maker.alloc);
     maker.arguments(scope, line.hole(2), &mut args)?;
-    let call = maker.call("super::action", line.hole(0), args)?;
-    if line.part() == Part::CallPlain {
-        return Ok(call);
-    }
-    let slot = scope.fresh();
+    maker.call("super::action", line.hole(0), args)
+}
+
+// A value, or the return of its error.
+fn checked<'p>(maker: &Maker<'p>, slot: usize, call: Expr) -> Result<Expr, AllocError>
+    ensures { IfOk result (λ v. v ≡ checked slot call) }
+{
     let bad = maker.apply(Op::Wrap(Tag::Failure), Expr::take(slot))?;
     let some = maker.apply(Op::Wrap(Tag::Present), bad)?;
     let back = maker.give_back(some)?;
     maker.on_result(call, slot, Expr::take(slot), back)
 }
 
-fn outcome_push<'p>(
-    maker: &mut Maker<'p>,
-    scope: &mut Scope,
-    line: Form<'p>,
-    parts: &mut Vec<Expr>,
-) -> Result<(), AllocError> {
-    let variant = maker.variant(line.hole(0))?;
-    let symbol = maker.apply(Op::Wrap(variant), maker.name(scope, "~nt"))?;
-    let start = maker.name(scope, "~start");
-    let end = maker.name(scope, "~end");
-    let triple = Expr::join(
-        Join::Make(Tag::Tuple),
-        vec![in maker.alloc; start, symbol, end]?,
-    );
-    parts.push(maker.pair(Join::Push, maker.name(scope, "~symbols"), triple)?)?;
-    let pop = maker.index(number(line.hole(1)));
-    let nonterminal = maker.index(number(line.hole(2)));
-    parts.push(maker.pair(Join::Make(Tag::Tuple), pop, nonterminal)?)?;
+// `return Some(Ok(~nt));`.
+fn start_line<'p>(maker: &Maker<'p>, scope: &Scope, parts: &mut Vec<Expr>) -> Result<(), AllocError>
+    ensures { OnOk result (lines_of scope.now parts.new.items ≡ start_line (lines_of scope.now parts.old.items)) }
+{
+    let good = maker.apply(Op::Wrap(Tag::Success), maker.name(scope, "~nt"))?;
+    let some = maker.apply(Op::Wrap(Tag::Present), good)?;
+    let back = maker.give_back(some)?;
+    parts.push(back)?;
     Ok(())
 }
 
+// `~symbols.push(..); (pop, nonterminal)`.
+fn push_line<'p>(
+    maker: &mut Maker<'p>,
+    scope: &Scope,
+    line: Form<'p>,
+    parts: &mut Vec<Expr>,
+) -> Result<(), AllocError>
+    ensures lines { OnOk result (lines_of scope.now parts.new.items ≡ push_line (making maker.old) (listed line.entry) (lines_of scope.now parts.old.items)) }
+    ensures made { OnOk result (making maker.new ≡ with_variant (hole_of 0 (listed line.entry)) (making maker.old)) }
+{
+    let variant = maker.variant(line.hole(0))?;
+    let triple = symbol_triple(maker, scope, variant)?;
+    let pushed = maker.pair(Join::Push, symbols(maker, scope), triple)?;
+    parts.push(pushed)?;
+    let pop = maker.index(number(line.hole(1)));
+    let nonterminal = maker.index(number(line.hole(2)));
+    let outcome = maker.pair(Join::Make(Tag::Tuple), pop, nonterminal)?;
+    parts.push(outcome)?;
+    Ok(())
+}
+
+// `(~start, ~Symbol::V(~nt), ~end)`.
+fn symbol_triple<'p>(maker: &Maker<'p>, scope: &Scope, variant: Tag) -> Result<Expr, AllocError>
+    ensures { IfOk result (λ v. v ≡ symbol_triple variant scope.now) }
+{
+    let symbol = maker.apply(Op::Wrap(variant), maker.name(scope, "~nt"))?;
+    let start = maker.name(scope, "~start");
+    let end = maker.name(scope, "~end");
+    let parts = vec![in maker.alloc; start, symbol, end]?;
+    Ok(Expr::join(Join::Make(Tag::Tuple), parts))
+}
+
+/// The state type of the parameter that is a slice of states.
+pub fn slice_type(header: Form<'_>) -> Option<StateType>
+    ensures { result ≡ slice_type (listed header.entry) }
+{
+    element_type("states: &[", b']', header)
+}
+
+/// The state type of the parameter that is a list of states.
+pub fn vec_type(header: Form<'_>) -> Option<StateType>
+    ensures { result ≡ vec_type (listed header.entry) }
+{
+    element_type("states: &mut alloc::vec::Vec<", b'>', header)
+}
+
+// The state type of the parameter whose type stands between these.
+fn element_type(before: &str, after: u8, header: Form<'_>) -> Option<StateType>
+    ensures { result ≡ element_type before.now after (listed header.entry) }
+{
+    let mut kind = None;
+    for row in header.parts() {
+        kind = type_row(before, after, kind, row);
+    }
+    kind
+}
+
+fn type_row(before: &str, after: u8, kind: Option<StateType>, row: Form<'_>) -> Option<StateType>
+    ensures { result ≡ type_row before.now after kind (listed row.entry) }
+{
+    if !is_a(Part::ParameterRow, row) {
+        return kind;
+    }
+    match cut_at(before, row.hole(0)) {
+        None => kind,
+        Some((_, rest)) => state_type_of(without_end(after, rest.as_bytes())),
+    }
+}
+
+fn mismatch<'p>(maker: &Maker<'p>) -> Result<Expr, AllocError>
+    ensures { IfOk result (λ v. v ≡ mismatch (making maker.now)) }
+{
+    maker.call("symbol_type_mismatch", "", Vec::new(maker.alloc))
+}
+
 /// The function that takes a symbol of one variant off.
-pub fn pop<'p>(maker: &mut Maker<'p>, form: Form<'p>) -> Result<Function, AllocError> {
+pub fn pop<'p>(maker: &mut Maker<'p>, form: Form<'p>) -> Result<Function, AllocError>
+    ensures function { IfOk result (λ f. f ≡ pop_function (making maker.old) (listed form.entry)) }
+    ensures made { OnOk result (making maker.new ≡ with_variant (hole_of 0 (listed form.entry)) (making maker.old)) }
+{
     let variant = maker.variant(form.hole(0))?;
-    let alloc = maker.alloc;
-    let mismatch = maker.call("symbol_type_mismatch", "", Vec::new(alloc))?;
-    let unlike = maker.call("symbol_type_mismatch", "", Vec::new(alloc))?;
-    let open = maker.apply(Op::Parts(2, 1), Expr::take(3))?;
-    let triple = vec![in alloc; Expr::take(1), Expr::take(2), Expr::take(4)]?;
-    let triple = Expr::join(Join::Make(Tag::Tuple), triple);
-    let fits = Expr::block(vec![in alloc; open, triple]?);
-    let cases = vec![in alloc; here(Test::Is(variant), 0)]?;
-    let bodies = vec![in alloc; fits, unlike]?;
-    let matched = Expr::select(alloc, Expr::take(2), 3, cases, bodies)?;
-    // The span stands in the slots 1 and 4, the symbol in 2.
+    let none = mismatch(maker)?;
+    let some = pop_lines(maker, variant)?;
+    let popped = maker.apply(Op::Pop, Expr::read(0))?;
+    let body = maker.on_option(popped, 1, none, some)?;
+    Ok(function(1, 7, body))
+}
+
+// The popped triple in its parts: the span stands in the slots 1 and 4, the symbol in 2.
+fn pop_lines<'p>(maker: &Maker<'p>, variant: Tag) -> Result<Expr, AllocError>
+    ensures { IfOk result (λ v. v ≡ pop_lines (making maker.now) variant) }
+{
+    let matched = pop_match(maker, variant)?;
     let spread = maker.apply(Op::Parts(5, 3), Expr::take(1))?;
     let start = maker.write(1, Expr::take(5))?;
     let symbol = maker.write(2, Expr::take(6))?;
     let end = maker.write(4, Expr::take(7))?;
-    let some = Expr::block(vec![in alloc; spread, start, symbol, end, matched]?);
-    let popped = maker.apply(Op::Pop, Expr::read(0))?;
-    Ok(Function {
-        params: 1,
-        slots: 7,
-        body: maker.on_option(popped, 1, mismatch, some)?,
-    })
+    Ok(Expr::block(vec![in maker.alloc; spread, start, symbol, end, matched]?))
+}
+
+// The triple with what its symbol holds.
+fn pop_match<'p>(maker: &Maker<'p>, variant: Tag) -> Result<Expr, AllocError>
+    ensures { IfOk result (λ v. v ≡ pop_match (making maker.now) variant) }
+{
+    let unlike = mismatch(maker)?;
+    let open = maker.apply(Op::Parts(2, 1), Expr::take(3))?;
+    let triple = vec![in maker.alloc; Expr::take(1), Expr::take(2), Expr::take(4)]?;
+    let triple = Expr::join(Join::Make(Tag::Tuple), triple);
+    let fits = Expr::block(vec![in maker.alloc; open, triple]?);
+    let cases = vec![in maker.alloc; here(Test::Is(variant), 0)]?;
+    let bodies = vec![in maker.alloc; fits, unlike]?;
+    Expr::select(maker.alloc, Expr::take(2), 3, cases, bodies)
 }

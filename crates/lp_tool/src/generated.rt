@@ -3,6 +3,7 @@
 ghost use Rattle.std.specs.Prelude.{ℕ, List, Option, Some, IfErr, IfOk};
 ghost use Rattle.lp_tool.specs.Causes.{IsOfFile};
 ghost use Rattle.lp_tool.specs.Told.{IsPrepared, Tells};
+ghost use Rattle.lp_tool.specs.declared.command.Command.{Command};
 
 use crate::file::{Stop, file_of};
 use crate::status::Status;

@@ -1,0 +1,9 @@
+-- The tests of the ranges that are left, after those so far.
+use Rattle.std.proofs.Common.{◌≡◌, drop, map}
+use Rattle.lp_bodies.specs.Arms.{gathered}
+use Rattle.lp_bodies.specs.Tables.{range_cases}
+use Rattle.lp_bodies.proofs.table.range_cases.Given as goal
+
+abbrev pub invariant-loop-text : goal.invariant-loop-text
+invariant-loop-text l =
+    range_cases (gathered l.arms) (map (λ text. text.now) (drop l.text-index l.texts)) ≡ range_cases (gathered l.fn.arms) (map (λ text. text.now) l.texts)

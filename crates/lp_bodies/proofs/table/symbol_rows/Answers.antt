@@ -1,0 +1,16 @@
+use Rattle.lp_view.specs.PartLists.{listed}
+use Rattle.lp_view.proofs.Over.{over_step, over_done}
+use Rattle.lp_maker.specs.Making.{making}
+use Rattle.lp_bodies.specs.Arms.{gathered}
+use Rattle.lp_bodies.specs.Tables.{reading_of, symbol_row, symbol_rows}
+use Rattle.lp_bodies.proofs.table.symbol_rows.Goals as goal
+
+pub loop-row-preserved : goal.loop-row-preserved
+loop-row-preserved c =
+    let at = c.loop-row in
+    over_step symbol_row (reading_of (gathered at.arms) (making at.maker)) (reading_of (gathered c.symbol_row.new.arms) (making c.symbol_row.new.maker)) (symbol_rows (making c.args.maker.now) (listed c.args.form)) c.next.result c.in-Some.row at.row-iterator c.next.new.self c.in-Some.is c.next.ensures.steps c.in_ok-symbol_row.ensures at.invariant
+
+pub returns : goal.returns
+returns c =
+    let at = c.loop-row in
+    over_done symbol_row (reading_of (gathered at.arms) (making at.maker)) (symbol_rows (making c.args.maker.now) (listed c.args.form)) c.next.result at.row-iterator c.next.new.self c.in-None.is c.next.ensures.steps at.invariant
