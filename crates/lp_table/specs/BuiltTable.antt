@@ -5,8 +5,7 @@ use Rattle.lp_repr.specs.declared.lr1.Lr1State.{Lr1State}
 use Rattle.lp_repr.specs.declared.repr.Grammar.{Grammar}
 use Rattle.lp_repr.specs.declared.repr.NonterminalString.{NonterminalString}
 use Rattle.lp_tree.specs.ProgramTree.{Item, leaf}
-use Rattle.lp_build.specs.Built.{over}
-use Rattle.lp_table.specs.FrameLines.{inner_uses, table_parser, token_use_lines}
+use Rattle.lp_table.specs.FrameLines.{inner_uses, module_parts, table_parser, token_use_lines}
 use Rattle.lp_table.specs.MachineLines.{acceptance, definition, drive_call, expected_list, implementation, simulation, symbol_values}
 use Rattle.lp_table.specs.ReductionLines.{pop_functions, reduce_function, reduce_functions}
 use Rattle.lp_table.specs.Starts.{Start, start_for}
@@ -38,7 +37,7 @@ table_items g states s = with_reductions g states s (with_machine g states s (wi
 -- the module of a start with its states
 abbrev pub built_table : Grammar → List Lr1State → Start → List Item
 built_table g states s =
-    over part.ParseModule (s.nonterminal.0 ∷ []) ((inner_uses g ++ token_use_lines g) ++ over part.TableItems [] (table_items g states s))
+    module_parts s.nonterminal.0 (inner_uses g ++ token_use_lines g) (table_items g states s)
 
 -- that of the start of a number
 abbrev pub built_for : Grammar → List Lr1State → Option (NonterminalString × NonterminalString) → List Item

@@ -34,8 +34,11 @@ abbrev pub token_bound : Grammar → List ℕ
 token_bound g =
     g.prefix ++ (codes "TOKEN: " ++ (g.prefix ++ (codes "ToTriple<" ++ (each_with_comma (generics_of g) ++ codes ">"))))
 
+unfoldable pub token_iterator : List ℕ → List ℕ
+token_iterator prefix = codes "IntoIterator<Item=" ++ (prefix ++ codes "TOKEN>")
+
 abbrev pub tokens_bound : Grammar → List ℕ
-tokens_bound g = g.prefix ++ (codes "TOKENS: IntoIterator<Item=" ++ (g.prefix ++ codes "TOKEN>"))
+tokens_bound g = g.prefix ++ (codes "TOKENS: " ++ token_iterator g.prefix)
 
 abbrev pub parse_generics : Grammar → List (List ℕ)
 parse_generics g = if is_interned g then generics_of g else generics_of g ++ token_bound g ∷ tokens_bound g ∷ []
@@ -53,14 +56,23 @@ parse_parameters g = if is_interned g then own_parameters g else own_parameters 
 abbrev pub parse_answer : Grammar → Start → List ℕ
 parse_answer g s = codes "Result<" ++ (s.ty ++ (codes ", " ++ (parse_error_text g ++ codes ">")))
 
-abbrev pub parse_header : Grammar → Start → List Item
+unfoldable pub parse_header : Grammar → Start → List Item
 parse_header g s = header_lines (name.Parse s.visibility) (parse_generics g) (parse_parameters g) (parse_answer g s) (clauses_of g)
 
 -- where the tokens come from
-abbrev pub source_lines : Grammar → List Item
+unfoldable pub source_lines : Grammar → List Item
 source_lines g = leaf (if is_interned g then part.TokenSourceInterned else part.TokenSourcePlain) []
+
+-- a parser by tables, and a module of table-driven code, of what is below them
+unfoldable pub parser_parts : Bool → List ℕ → List ℕ → List Item → List Item
+parser_parts interned visibility public_name below =
+    over (parser_part false interned) (visibility ∷ public_name ∷ []) below
+
+unfoldable pub module_parts : List ℕ → List Item → List Item → List Item
+module_parts nonterminal front rows =
+    over part.ParseModule (nonterminal ∷ []) (front ++ over part.TableItems [] rows)
 
 -- the parser by tables, with this body of its `parse` method
 unfoldable pub table_parser : Grammar → Start → List Item → List Item
 table_parser g s body =
-    over (parser_part false (is_interned g)) (s.visibility ∷ s.public_name ∷ []) ((parse_header g s ++ source_lines g) ++ body)
+    parser_parts (is_interned g) s.visibility s.public_name ((parse_header g s ++ source_lines g) ++ body)

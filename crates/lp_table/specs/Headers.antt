@@ -11,7 +11,7 @@ use Rattle.lp_build.specs.Functions.{clause_lines, name_holes, name_part, result
 use Rattle.lp_build.specs.declared.functions.FunctionName.{FunctionName}
 
 -- a header of these texts
-abbrev pub header_lines : FunctionName → List (List ℕ) → List (List ℕ) → List ℕ → List (List ℕ) → List Item
+unfoldable pub header_lines : FunctionName → List (List ℕ) → List (List ℕ) → List ℕ → List (List ℕ) → List Item
 header_lines name generics parameters answer clauses =
     over (name_part name) (name_holes name)
     (((text_rows part.TypeRow generics ++ text_rows part.ParameterRow parameters) ++ result_line answer) ++ clause_lines clauses)

@@ -25,7 +25,7 @@ phantom_type_text g = phantom_type_of g.type_parameters
 abbrev pub phantom_text : Grammar → List ℕ
 phantom_text g = phantom_expression_of g.type_parameters
 
-abbrev pub phantom_parameter : Grammar → List ℕ
+unfoldable pub phantom_parameter : Grammar → List ℕ
 phantom_parameter g = codes "_: " ++ phantom_type_text g
 
 -- the variant of a type
@@ -60,14 +60,18 @@ implementation g states s =
     (recovery_lines (recovery_variant g) ++ text_rows part.SelfRow (names_of g))
 
 -- a stack of states as a parameter
-abbrev pub states_parameter : Grammar → List Lr1State → List ℕ
+unfoldable pub states_parameter : Grammar → List Lr1State → List ℕ
 states_parameter g states = g.prefix ++ (codes "states: &[" ++ (state_text g states ++ codes "]"))
+
+-- a list of strings
+unfoldable pub strings_type : List ℕ
+strings_type = codes "alloc::vec::Vec<alloc::string::String>"
 
 -- the terminals that a stack of states accepts
 unfoldable pub expected_list : Grammar → List Lr1State → List Item
 expected_list g states =
     over part.ExpectedFromStates (phantom_text g ∷ [])
-    (machine_header g name.ExpectedTokensFromStates (states_parameter g states ∷ phantom_parameter g ∷ []) (codes "alloc::vec::Vec<alloc::string::String>"))
+    (machine_header g name.ExpectedTokensFromStates (states_parameter g states ∷ phantom_parameter g ∷ []) strings_type)
 
 -- what a production pops and produces; the start's does neither
 abbrev pub reduced_of : Grammar → Start → Production → Option Reduced
@@ -84,12 +88,24 @@ abbrev pub simulated_from : Grammar → Start → ℕ → List Production → Li
 simulated_from g s n [] = []
 simulated_from g s n (p ∷ ps) = simulated_line g s n p ∷ simulated_from g s (n + 1) ps
 
-abbrev pub index_parameter : Grammar → List Lr1State → List ℕ
+unfoldable pub index_parameter : Grammar → List Lr1State → List ℕ
 index_parameter g states = g.prefix ++ (codes "reduce_index: " ++ state_text g states)
 
-abbrev pub simulated_answer : Grammar → List ℕ
-simulated_answer g =
-    g.prefix ++ (codes "state_machine::SimulatedReduce<" ++ (g.prefix ++ (codes "StateMachine<" ++ (machine_generics_text g ++ codes ">>"))))
+-- what a simulation answers
+unfoldable pub simulated_type : List ℕ → List ℕ
+simulated_type machine = codes "SimulatedReduce<" ++ (machine ++ codes ">")
+
+unfoldable pub machine_type : List ℕ → List ℕ → List ℕ
+machine_type prefix generics = prefix ++ (codes "StateMachine<" ++ (generics ++ codes ">"))
+
+unfoldable pub machine_name : Grammar → List ℕ
+machine_name g = machine_type g.prefix (machine_generics_text g)
+
+unfoldable pub simulated_over : List ℕ → List ℕ → List ℕ
+simulated_over prefix simulated = prefix ++ (codes "state_machine::" ++ simulated)
+
+unfoldable pub simulated_answer : Grammar → List ℕ
+simulated_answer g = simulated_over g.prefix (simulated_type (machine_name g))
 
 -- what a reduction would do
 unfoldable pub simulation : Grammar → List Lr1State → Start → List Item
@@ -98,10 +114,10 @@ simulation g states s =
     (machine_header g name.SimulateReduce (index_parameter g states ∷ phantom_parameter g ∷ []) (simulated_answer g) ++ simulated_from g s 0 (productions_of g))
 
 -- whether a stack of states accepts a token
-abbrev pub error_state_parameter : Grammar → List Lr1State → List ℕ
+unfoldable pub error_state_parameter : Grammar → List Lr1State → List ℕ
 error_state_parameter g states = g.prefix ++ (codes "error_state: Option<" ++ (state_text g states ++ codes ">"))
 
-abbrev pub integer_parameter : Grammar → List ℕ
+unfoldable pub integer_parameter : Grammar → List ℕ
 integer_parameter g = g.prefix ++ codes "opt_integer: Option<usize>"
 
 unfoldable pub acceptance : Grammar → List Lr1State → List Item

@@ -15,12 +15,12 @@ use Rattle.lp_build.specs.Built.{over, text_if, text_rows}
 use Rattle.lp_build.specs.Reductions.{assert_lines, call_of, outcome_of, pop_lines, span_of}
 use Rattle.lp_build.specs.declared.functions.FunctionName.TheVariants as name
 use Rattle.lp_build.specs.declared.reductions.Produced.{Produced}
-use Rattle.lp_parts.specs.Texts.{arguments_of, comma_list, generic_names_text, location_text, parse_error_text, spanned_symbol_of, symbol_clauses_text, symbol_parameters, symbol_parameters_text, symbol_text}
+use Rattle.lp_parts.specs.Texts.{arguments_of, comma_list, generic_names_text, location_text, parse_error_text, symbol_clauses_text, symbol_parameters, symbol_parameters_text}
 use Rattle.lp_parts.specs.Variants.{nonterminal_variants, terminal_variants}
 use Rattle.lp_table.specs.Headers.{grammar_header}
 use Rattle.lp_table.specs.MachineLines.{phantom_parameter, phantom_text}
-use Rattle.lp_table.specs.Pieces.{unless_empty, variant_text, variant_types_shown}
-use Rattle.lp_table.specs.Starts.{Start, is_fallible, is_start, state_text}
+use Rattle.lp_table.specs.Pieces.{borrowed_option, spanned_symbol_text, unless_empty, variant_text, variant_types_shown, vec_of}
+use Rattle.lp_table.specs.Starts.{Start, is_fallible, is_start, location_name, state_name, state_text}
 
 -- the variant of a symbol, the first one where it has no number
 abbrev pub variant_at : Grammar → Option SymbolNumber → ℕ
@@ -73,7 +73,7 @@ abbrev pub is_called : Grammar → Start → Production → Bool
 is_called g s p = not (is_fallible g p) && not (is_start s p)
 
 -- the arm of a production of a number
-abbrev pub reduction_arm : Grammar → Start → ℕ → Production → List Item
+unfoldable pub reduction_arm : Grammar → Start → ℕ → Production → List Item
 reduction_arm g s n p =
     if is_called g s p then leaf part.ReduceCallArm (decimal n ∷ arguments_of g.parameters ∷ phantom_text g ∷ [])
     else over part.ReduceBodyArm (decimal n ∷ []) (reduction_body g s p)
@@ -83,23 +83,25 @@ arms_from g s n [] = []
 arms_from g s n (p ∷ ps) = reduction_arm g s n p ++ arms_from g s (n + 1) ps
 
 -- the parameters of these functions
-abbrev pub action_parameter : Grammar → List Lr1State → List ℕ
+unfoldable pub action_parameter : Grammar → List Lr1State → List ℕ
 action_parameter g states = g.prefix ++ (codes "action: " ++ state_text g states)
 
-abbrev pub stack_parameter : Grammar → List Lr1State → List ℕ
-stack_parameter g states = g.prefix ++ (codes "states: &mut alloc::vec::Vec<" ++ (state_text g states ++ codes ">"))
+unfoldable pub state_list : List ℕ → List ℕ → List ℕ
+state_list prefix list = prefix ++ (codes "states: &mut " ++ list)
 
-abbrev pub lookahead_parameter : Grammar → List ℕ
-lookahead_parameter g = g.prefix ++ (codes "lookahead_start: Option<&" ++ (location_text g ++ codes ">"))
+unfoldable pub stack_parameter : Grammar → List Lr1State → List ℕ
+stack_parameter g states = state_list g.prefix (vec_of (state_name g states))
 
-abbrev pub symbols_parameter : Grammar → List ℕ
-symbols_parameter g =
-    g.prefix ++ (codes "symbols: &mut alloc::vec::Vec<" ++ (spanned_symbol_of (location_text g) (symbol_text g) ++ codes ">"))
+unfoldable pub lookahead_parameter : Grammar → List ℕ
+lookahead_parameter g = g.prefix ++ (codes "lookahead_start: " ++ borrowed_option (location_name g))
 
-abbrev pub reduce_answer : Grammar → Start → List ℕ
+unfoldable pub symbols_parameter : Grammar → List ℕ
+symbols_parameter g = g.prefix ++ (codes "symbols: &mut " ++ vec_of (spanned_symbol_text g))
+
+unfoldable pub reduce_answer : Grammar → Start → List ℕ
 reduce_answer g s = codes "Option<Result<" ++ (s.ty ++ (codes "," ++ (parse_error_text g ++ codes ">>")))
 
-abbrev pub reduce_header : Grammar → List Lr1State → Start → List Item
+unfoldable pub reduce_header : Grammar → List Lr1State → Start → List Item
 reduce_header g states s =
     grammar_header g name.Reduce [] (action_parameter g states ∷ lookahead_parameter g ∷ stack_parameter g states ∷ symbols_parameter g ∷ phantom_parameter g ∷ []) (reduce_answer g s)
 
@@ -107,10 +109,14 @@ reduce_header g states s =
 unfoldable pub reduce_function : Grammar → List Lr1State → Start → List Item
 reduce_function g states s = over part.Reduce [] (reduce_header g states s ++ arms_from g s 0 (productions_of g))
 
+-- where a reduction starts and ends
+unfoldable pub places_type : List ℕ
+places_type = codes "(usize, usize)"
+
 -- the function of a production, if it has one
-abbrev pub own_header : Grammar → ℕ → List Item
+unfoldable pub own_header : Grammar → ℕ → List Item
 own_header g n =
-    grammar_header g (name.ReduceProduction n) [] (lookahead_parameter g ∷ symbols_parameter g ∷ phantom_parameter g ∷ []) (codes "(usize, usize)")
+    grammar_header g (name.ReduceProduction n) [] (lookahead_parameter g ∷ symbols_parameter g ∷ phantom_parameter g ∷ []) places_type
 
 abbrev pub own_function : Grammar → Start → ℕ → Production → List Item
 own_function g s n p = over part.ReduceFn [] (own_header g n ++ reduction_body g s p)

@@ -6,6 +6,7 @@ ghost use Rattle.std.specs.Fmt.{decimal};
 ghost use Rattle.std.specs.List.{flat_map};
 ghost use Rattle.lp_build.specs.Built.{over};
 ghost use Rattle.lp_build.specs.Functions.{parser_part};
+ghost use Rattle.lp_table.specs.FrameLines.{module_parts, parser_parts};
 ghost use Rattle.lp_tree.specs.ProgramTree.{head, items, leaf, parts_below};
 
 use lp_form::Part;
@@ -31,13 +32,14 @@ fn over_nodes<'t>(alloc: Global, part: Part, nodes: Vec<Node<'t>>) -> Result<Nod
 
 /// The module of a start nonterminal, of table-driven code: what stands before the items, and the
 /// items.
+#[tactic(auto, unfolding(crate::specs::FrameLines::module_parts))]
 pub fn module_of<'t>(
     alloc: Global,
     start: Name<'t>,
     below: Vec<Node<'t>>,
     rows: Vec<Node<'t>>,
 ) -> Result<Node<'t>, AllocError>
-    ensures { IfOk result (λ n. items n ≡ over Part.ParseModule (start.entry ∷ []) (flat_map items below.entry.items ++ over Part.TableItems [] (flat_map items rows.entry.items))) }
+    ensures { IfOk result (λ n. items n ≡ module_parts start.entry (flat_map items below.entry.items) (flat_map items rows.entry.items)) }
 {
     let mut node = text_row(alloc, Part::ParseModule, start.into_piece())?;
     node.add_all(below)?;
@@ -58,6 +60,7 @@ fn parser_part(interned: bool) -> Part
 
 /// A parser by tables: the visibility of its rule, its public name, and whether the grammar is
 /// interned. Below it: the header of `parse`, the token source, and `drive`.
+#[tactic(auto, unfolding(crate::specs::FrameLines::parser_parts))]
 pub fn parser_of<'t>(
     alloc: Global,
     visibility: Piece<'t>,
@@ -65,7 +68,7 @@ pub fn parser_of<'t>(
     interned: bool,
     below: Vec<Node<'t>>,
 ) -> Result<Node<'t>, AllocError>
-    ensures { IfOk result (λ n. items n ≡ over (parser_part false interned) (visibility.entry ∷ public_name.entry ∷ []) (flat_map items below.entry.items)) }
+    ensures { IfOk result (λ n. items n ≡ parser_parts interned visibility.entry public_name.entry (flat_map items below.entry.items)) }
 {
     let part = parser_part(interned);
     let holes = vec![in alloc; visibility, public_name.into_piece()]?;

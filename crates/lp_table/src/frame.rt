@@ -1,10 +1,8 @@
 //! The frame of a module: uses, and the parser with its `parse` method.
 
-ghost use Rattle.std.specs.Prelude.{◌≡◌, ◌++◌, ◌∷◌, [], codes, is_some, nat_eq, IfOk, OnOk};
+ghost use Rattle.std.specs.Prelude.{◌≡◌, ◌++◌, codes, is_some, nat_eq, string_bytes, IfOk, OnOk};
 ghost use Rattle.std.specs.List.{flat_map, starts_with};
-ghost use Rattle.lp_form.specs.declared.part.Part.TheVariants as part;
-ghost use Rattle.lp_build.specs.Built.{over};
-ghost use Rattle.lp_table.specs.FrameLines.{inner_use, inner_uses, parse_answer, parse_generics, parse_header, parse_parameters, table_parser, token_bound, token_use_lines, tokens_bound, tokens_parameter, use_lines};
+ghost use Rattle.lp_table.specs.FrameLines.{inner_use, inner_uses, module_parts, parse_answer, parse_generics, parse_header, parse_parameters, source_lines, table_parser, token_bound, token_iterator, token_use_lines, tokens_bound, tokens_parameter, use_lines};
 ghost use Rattle.lp_table.specs.Starts.{start_of};
 ghost use Rattle.lp_tree.specs.ProgramTree.{items};
 
@@ -73,16 +71,23 @@ fn is_interned(grammar: &Grammar) -> bool
     grammar.intern_token.is_some()
 }
 
+/// What stands before the items of a module: the uses, and the token use.
+fn module_front<'t>(alloc: Global, grammar: &'t Grammar) -> Result<Vec<Node<'t>>, AllocError>
+    ensures { IfOk result (λ v. flat_map items v.items ≡ inner_uses grammar.entry.now ++ token_use_lines grammar.entry.now) }
+{
+    let mut front = Vec::new(alloc);
+    add_inner_uses(alloc, &mut front, grammar)?;
+    front.push(token_use(alloc, is_interned(grammar))?)?;
+    Ok(front)
+}
+
 /// A module with these items, under the name of its start nonterminal.
 pub fn module<'t>(
     alloc: Global,
     shared: &Shared<'t>,
     rows: Vec<Node<'t>>,
 ) -> Result<Node<'t>, AllocError> {
-    let grammar = shared.grammar;
-    let mut below = Vec::new(alloc);
-    add_inner_uses(alloc, &mut below, grammar)?;
-    below.push(token_use(alloc, is_interned(grammar))?)?;
+    let mut below = module_front(alloc, shared.grammar)?;
     for row in rows {
         below.push(row)?;
     }
@@ -95,14 +100,11 @@ pub fn table_module<'t>(
     shared: &Shared<'t>,
     rows: Vec<Node<'t>>,
 ) -> Result<Node<'t>, AllocError>
-    ensures { IfOk result (λ n. items n ≡ over part.ParseModule ((start_of shared.now.start).nonterminal.0 ∷ []) ((inner_uses shared.now.grammar.now ++ token_use_lines shared.now.grammar.now) ++ over part.TableItems [] (flat_map items rows.entry.items))) }
+    ensures { IfOk result (λ n. items n ≡ module_parts (start_of shared.now.start).nonterminal.0 (inner_uses shared.now.grammar.now ++ token_use_lines shared.now.grammar.now) (flat_map items rows.entry.items)) }
 {
-    let grammar = shared.grammar;
-    let mut below = Vec::new(alloc);
-    add_inner_uses(alloc, &mut below, grammar)?;
-    below.push(token_use(alloc, is_interned(grammar))?)?;
+    let front = module_front(alloc, shared.grammar)?;
     let name = lent_name(shared.start.nonterminal.0.as_str());
-    module_of(alloc, name, below, rows)
+    module_of(alloc, name, front, rows)
 }
 
 /// The parser, with this body of its `parse` method.
@@ -135,15 +137,35 @@ pub fn table_parser<'t>(
     ensures { IfOk result (λ n. items n ≡ table_parser shared.now.grammar.now (start_of shared.now.start) (items body.entry)) }
 {
     let interned = is_interned(shared.grammar);
-    let head = parse_header(alloc, shared)?;
-    let source = token_source(alloc, interned)?;
     let visibility = copied(alloc, shared.start.visibility.as_str())?;
     let name = lent_name(shared.start.public_name);
-    let below = vec![in alloc; head, source, body]?;
+    let below = parser_below(alloc, shared, body)?;
     parser_of(alloc, visibility, name, interned, below)
 }
 
+/// What is below a parser: the header of `parse`, where the tokens come from, and the body.
+fn parser_below<'t>(
+    alloc: Global,
+    shared: &Shared<'t>,
+    body: Node<'t>,
+) -> Result<Vec<Node<'t>>, AllocError>
+    ensures { IfOk result (λ v. flat_map items v.items ≡ (parse_header shared.now.grammar.now (start_of shared.now.start) ++ source_lines shared.now.grammar.now) ++ items body.entry) }
+{
+    let head = parse_header(alloc, shared)?;
+    let source = source_of(alloc, shared.grammar)?;
+    Ok(vec![in alloc; head, source, body]?)
+}
+
+/// Where the tokens of a grammar come from.
+#[tactic(auto, unfolding(crate::specs::FrameLines::source_lines))]
+fn source_of<'t>(alloc: Global, grammar: &Grammar) -> Result<Node<'t>, AllocError>
+    ensures { IfOk result (λ n. items n ≡ source_lines grammar.now) }
+{
+    token_source(alloc, is_interned(grammar))
+}
+
 /// The header of `parse`.
+#[tactic(auto, unfolding(crate::specs::FrameLines::parse_header))]
 fn parse_header<'t>(alloc: Global, shared: &Shared<'t>) -> Result<Node<'t>, AllocError>
     ensures { IfOk result (λ n. items n ≡ parse_header shared.now.grammar.now (start_of shared.now.start)) }
 {
@@ -183,7 +205,16 @@ fn tokens_bound<'t>(alloc: Global, shared: &Shared<'t>) -> Result<Piece<'t>, All
     ensures { IfOk result (λ p. p ≡ tokens_bound shared.now.grammar.now) }
 {
     let prefix = shared.grammar.prefix.as_str();
-    Ok(made(format!(in alloc; "{prefix}TOKENS: IntoIterator<Item={prefix}TOKEN>")?))
+    let iterator = token_iterator(alloc, prefix)?;
+    Ok(made(format!(in alloc; "{prefix}TOKENS: {iterator}")?))
+}
+
+/// What gives tokens.
+#[tactic(auto, unfolding(crate::specs::FrameLines::token_iterator))]
+fn token_iterator(alloc: Global, prefix: &str) -> Result<String, AllocError>
+    ensures { IfOk result (λ s. string_bytes s ≡ token_iterator prefix.now) }
+{
+    format!(in alloc; "IntoIterator<Item={prefix}TOKEN>")
 }
 
 /// The parameters of `parse`.

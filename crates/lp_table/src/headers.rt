@@ -86,6 +86,7 @@ pub fn shown_each<'t, T: Shown>(alloc: Global, values: &[T]) -> Result<Vec<Piece
 }
 
 /// A header of these texts.
+#[tactic(auto, unfolding(crate::specs::Headers::header_lines))]
 pub fn header_of<'t>(
     alloc: Global,
     name: FunctionName<'t>,

@@ -1,13 +1,13 @@
 //! The struct that the driver asks, and what it needs for expected lists.
 
-ghost use Rattle.std.specs.Prelude.{◌≡◌, map, IfOk};
+ghost use Rattle.std.specs.Prelude.{◌≡◌, map, string_bytes, IfOk};
 ghost use Rattle.std.specs.Map.Iter.{deref};
 ghost use Rattle.lp_build.specs.Machine.{field_row, simulate_row};
 ghost use Rattle.lp_build.specs.Tables.{variant_row};
 ghost use Rattle.lp_repr.specs.Shown.{parameter_text};
 ghost use Rattle.lp_repr.specs.ShownTypes.{clause_text, type_text};
 ghost use Rattle.lp_table.specs.Headers.{header_lines};
-ghost use Rattle.lp_table.specs.MachineLines.{acceptance, definition, drive_call, error_state_parameter, expected_list, implementation, index_parameter, integer_parameter, phantom_parameter, recovery_variant, reduced_of, simulated_answer, simulated_from, simulated_line, simulation, states_parameter, symbol_values, variant_line, variant_rows};
+ghost use Rattle.lp_table.specs.MachineLines.{acceptance, definition, drive_call, error_state_parameter, expected_list, implementation, index_parameter, integer_parameter, machine_name, machine_type, phantom_parameter, recovery_variant, reduced_of, simulated_answer, simulated_from, simulated_line, simulated_over, simulated_type, simulation, states_parameter, strings_type, symbol_values, variant_line, variant_rows};
 ghost use Rattle.lp_table.specs.Machines.{IsMachineOf, field_line};
 ghost use Rattle.lp_table.specs.Starts.{start_of};
 ghost use Rattle.lp_tree.specs.ProgramTree.{items};
@@ -196,14 +196,23 @@ pub fn expected_list<'t>(
 {
     let states = states_parameter(alloc, shared)?;
     let parameters = vec![in alloc; states, phantom_parameter(alloc, shared)?]?;
-    let result = lent("alloc::vec::Vec<alloc::string::String>");
+    let result = strings_type();
     let name = FunctionName::ExpectedTokensFromStates;
     let head = machine.header(alloc, name, parameters, result)?;
     let phantom = copied(alloc, shared.parameters.phantom_expression.as_str())?;
     expected_from_states(alloc, phantom, vec![in alloc; head]?)
 }
 
+/// A list of strings.
+#[tactic(auto, unfolding(crate::specs::MachineLines::strings_type))]
+fn strings_type<'t>() -> Piece<'t>
+    ensures { result ≡ strings_type }
+{
+    lent("alloc::vec::Vec<alloc::string::String>")
+}
+
 /// A stack of states as a parameter.
+#[tactic(auto, unfolding(crate::specs::MachineLines::states_parameter))]
 fn states_parameter<'t>(alloc: Global, shared: &Shared<'t>) -> Result<Piece<'t>, AllocError>
     ensures { IfOk result (λ p. p ≡ states_parameter shared.now.grammar.now shared.now.states.now) }
 {
@@ -213,6 +222,7 @@ fn states_parameter<'t>(alloc: Global, shared: &Shared<'t>) -> Result<Piece<'t>,
 }
 
 /// The parameter that uses each type parameter.
+#[tactic(auto, unfolding(crate::specs::MachineLines::phantom_parameter))]
 pub fn phantom_parameter<'t>(alloc: Global, shared: &Shared<'t>) -> Result<Piece<'t>, AllocError>
     ensures { IfOk result (λ p. p ≡ phantom_parameter shared.now.grammar.now) }
 {
@@ -270,6 +280,7 @@ fn simulate_arm<'t>(
 }
 
 /// The number of a production as a parameter.
+#[tactic(auto, unfolding(crate::specs::MachineLines::index_parameter))]
 fn index_parameter<'t>(alloc: Global, shared: &Shared<'t>) -> Result<Piece<'t>, AllocError>
     ensures { IfOk result (λ p. p ≡ index_parameter shared.now.grammar.now shared.now.states.now) }
 {
@@ -288,10 +299,45 @@ fn simulated_answer<'t>(
     ensures { IfOk result (λ p. p ≡ simulated_answer shared.now.grammar.now) }
 {
     let prefix = shared.grammar.prefix.as_str();
+    let name = machine_name(alloc, shared, machine)?;
+    let text = name.as_str();
+    let simulated = simulated_type(alloc, text)?;
+    let path = simulated.as_str();
+    simulated_over(alloc, prefix, path)
+}
+
+/// What a simulation answers, with the module that has it.
+#[tactic(auto, unfolding(crate::specs::MachineLines::simulated_over))]
+fn simulated_over<'t>(alloc: Global, prefix: &str, simulated: &str) -> Result<Piece<'t>, AllocError>
+    ensures { IfOk result (λ p. p ≡ simulated_over prefix.now simulated.now) }
+{
+    Ok(made(format!(in alloc; "{prefix}state_machine::{simulated}")?))
+}
+
+/// The struct over its type parameters.
+fn machine_name(alloc: Global, shared: &Shared<'_>, machine: &Machine) -> Result<String, AllocError>
+    requires { IsMachineOf shared.now.grammar.now machine.now }
+    ensures { IfOk result (λ s. string_bytes s ≡ machine_name shared.now.grammar.now) }
+{
+    let prefix = shared.grammar.prefix.as_str();
     let generics = machine.texts.parameters.as_str();
-    Ok(made(format!(in alloc;
-        "{prefix}state_machine::SimulatedReduce<{prefix}StateMachine<{generics}>>"
-    )?))
+    machine_type(alloc, prefix, generics)
+}
+
+/// The struct over these type parameters.
+#[tactic(auto, unfolding(crate::specs::MachineLines::machine_type))]
+fn machine_type(alloc: Global, prefix: &str, generics: &str) -> Result<String, AllocError>
+    ensures { IfOk result (λ s. string_bytes s ≡ machine_type prefix.now generics.now) }
+{
+    format!(in alloc; "{prefix}StateMachine<{generics}>")
+}
+
+/// What a simulation of this struct answers.
+#[tactic(auto, unfolding(crate::specs::MachineLines::simulated_type))]
+fn simulated_type(alloc: Global, machine: &str) -> Result<String, AllocError>
+    ensures { IfOk result (λ s. string_bytes s ≡ simulated_type machine.now) }
+{
+    format!(in alloc; "SimulatedReduce<{machine}>")
 }
 
 /// What a production pops and produces; the start's does neither.
@@ -328,6 +374,7 @@ pub fn acceptance<'t>(
 }
 
 /// The state of an error as a parameter.
+#[tactic(auto, unfolding(crate::specs::MachineLines::error_state_parameter))]
 fn error_state_parameter<'t>(alloc: Global, shared: &Shared<'t>) -> Result<Piece<'t>, AllocError>
     ensures { IfOk result (λ p. p ≡ error_state_parameter shared.now.grammar.now shared.now.states.now) }
 {
@@ -337,6 +384,7 @@ fn error_state_parameter<'t>(alloc: Global, shared: &Shared<'t>) -> Result<Piece
 }
 
 /// The number of a token as a parameter.
+#[tactic(auto, unfolding(crate::specs::MachineLines::integer_parameter))]
 fn integer_parameter<'t>(alloc: Global, shared: &Shared<'t>) -> Result<Piece<'t>, AllocError>
     ensures { IfOk result (λ p. p ≡ integer_parameter shared.now.grammar.now) }
 {

@@ -3,7 +3,7 @@
 ghost use Rattle.std.specs.Prelude.{◌≡◌, ◌++◌, codes, string_bytes, IfOk, IfSome, OnOk};
 ghost use Rattle.std.specs.List.{flat_map};
 ghost use Rattle.lp_parts.specs.Texts.{comma_list};
-ghost use Rattle.lp_table.specs.Pieces.{unless_empty, variant_text};
+ghost use Rattle.lp_table.specs.Pieces.{borrowed_option, unless_empty, variant_text, vec_of};
 
 use lp_repr::Text;
 use lp_tree::{Name, Piece};
@@ -75,6 +75,22 @@ pub fn variant_name<'t>(alloc: Global, number: usize) -> Result<Name<'t>, AllocE
     ensures { IfOk result (λ n. n ≡ variant_text number) }
 {
     Ok(Name::new(CowStr::Owned(format!(in alloc; "Variant{number}")?)))
+}
+
+/// Lists of a type.
+#[tactic(auto, unfolding(crate::specs::Pieces::vec_of))]
+pub fn vec_of(alloc: Global, ty: &str) -> Result<String, AllocError>
+    ensures { IfOk result (λ s. string_bytes s ≡ vec_of ty.now) }
+{
+    format!(in alloc; "alloc::vec::Vec<{ty}>")
+}
+
+/// A reference to a type that may be there.
+#[tactic(auto, unfolding(crate::specs::Pieces::borrowed_option))]
+pub fn borrowed_option(alloc: Global, ty: &str) -> Result<String, AllocError>
+    ensures { IfOk result (λ s. string_bytes s ≡ borrowed_option ty.now) }
+{
+    format!(in alloc; "Option<&{ty}>")
 }
 
 /// The texts, joined by `, `.

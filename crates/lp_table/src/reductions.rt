@@ -5,14 +5,17 @@ ghost use Rattle.std.specs.List.{flat_map, range_with_len};
 ghost use Rattle.std.specs.Map.Iter.{deref};
 ghost use Rattle.lp_repr.specs.Shown.{parameter_text};
 ghost use Rattle.lp_repr.specs.ShownTypes.{type_text};
-ghost use Rattle.lp_table.specs.ReductionLines.{action_arguments, action_parameter, arms_from, functions_from, if_called, is_called, left_number, lookahead_parameter, own_function, own_header, pop_function, pop_functions, pops_from, produced_of, reduce_answer, reduce_function, reduce_functions, reduce_header, reduction_arm, reduction_body, stack_parameter, symbol_arguments, symbol_name, symbol_variant, symbols_parameter, variant_at};
+ghost use Rattle.lp_table.specs.ReductionLines.{action_arguments, action_parameter, arms_from, functions_from, if_called, is_called, left_number, lookahead_parameter, own_function, own_header, places_type, pop_function, pop_functions, pops_from, produced_of, reduce_answer, reduce_function, reduce_functions, reduce_header, reduction_arm, reduction_body, stack_parameter, state_list, symbol_arguments, symbol_name, symbol_variant, symbols_parameter, variant_at};
 ghost use Rattle.lp_table.specs.Starts.{start_of};
 ghost use Rattle.lp_tree.specs.ProgramTree.{items};
 
 use crate::forms::{body_arm, call_arm, reduction_rows};
 use crate::headers::{grammar_header, parameter_text};
 use crate::machine::phantom_parameter;
-use crate::pieces::{comma_list, copied, copied_unless_empty, lent, made, piece_of, variant_name};
+use crate::pieces::{
+    borrowed_option, comma_list, copied, copied_unless_empty, lent, made, piece_of, variant_name,
+    vec_of,
+};
 use crate::shared::Shared;
 use lp_build::{FunctionName, Produced, pop, reduce_body, reduce_fn};
 use lp_repr::Text;
@@ -55,6 +58,7 @@ fn add_arms<'t>(
 }
 
 /// The arm of a production.
+#[tactic(auto, unfolding(crate::specs::ReductionLines::reduction_arm))]
 fn reduction_arm<'t>(
     alloc: Global,
     shared: &Shared<'t>,
@@ -73,6 +77,7 @@ fn reduction_arm<'t>(
 }
 
 /// The header of the function that reduces by any production.
+#[tactic(auto, unfolding(crate::specs::ReductionLines::reduce_header))]
 fn reduce_header<'t>(alloc: Global, shared: &Shared<'t>) -> Result<Node<'t>, AllocError>
     ensures { IfOk result (λ n. items n ≡ reduce_header shared.now.grammar.now shared.now.states.now (start_of shared.now.start)) }
 {
@@ -89,6 +94,7 @@ fn reduce_header<'t>(alloc: Global, shared: &Shared<'t>) -> Result<Node<'t>, All
 }
 
 /// The number of a production as a parameter.
+#[tactic(auto, unfolding(crate::specs::ReductionLines::action_parameter))]
 fn action_parameter<'t>(alloc: Global, shared: &Shared<'t>) -> Result<Piece<'t>, AllocError>
     ensures { IfOk result (λ p. p ≡ action_parameter shared.now.grammar.now shared.now.states.now) }
 {
@@ -102,29 +108,42 @@ fn stack_parameter<'t>(alloc: Global, shared: &Shared<'t>) -> Result<Piece<'t>, 
     ensures { IfOk result (λ p. p ≡ stack_parameter shared.now.grammar.now shared.now.states.now) }
 {
     let prefix = shared.grammar.prefix.as_str();
-    let state_type = shared.state_type;
-    Ok(made(format!(in alloc; "{prefix}states: &mut alloc::vec::Vec<{state_type}>")?))
+    let ty = shared.state_name();
+    let states = vec_of(alloc, ty)?;
+    let list = states.as_str();
+    state_list(alloc, prefix, list)
+}
+
+/// A list of states as a parameter.
+#[tactic(auto, unfolding(crate::specs::ReductionLines::state_list))]
+fn state_list<'t>(alloc: Global, prefix: &str, list: &str) -> Result<Piece<'t>, AllocError>
+    ensures { IfOk result (λ p. p ≡ state_list prefix.now list.now) }
+{
+    Ok(made(format!(in alloc; "{prefix}states: &mut {list}")?))
 }
 
 /// Where the lookahead starts, as a parameter.
+#[tactic(auto, unfolding(crate::specs::ReductionLines::lookahead_parameter))]
 fn lookahead_parameter<'t>(alloc: Global, shared: &Shared<'t>) -> Result<Piece<'t>, AllocError>
     ensures { IfOk result (λ p. p ≡ lookahead_parameter shared.now.grammar.now) }
 {
     let prefix = shared.grammar.prefix.as_str();
-    let location = shared.types.location.as_str();
-    Ok(made(format!(in alloc; "{prefix}lookahead_start: Option<&{location}>")?))
+    let location = borrowed_option(alloc, shared.location_name())?;
+    Ok(made(format!(in alloc; "{prefix}lookahead_start: {location}")?))
 }
 
 /// The stack of symbols as a parameter.
+#[tactic(auto, unfolding(crate::specs::ReductionLines::symbols_parameter))]
 fn symbols_parameter<'t>(alloc: Global, shared: &Shared<'t>) -> Result<Piece<'t>, AllocError>
     ensures { IfOk result (λ p. p ≡ symbols_parameter shared.now.grammar.now) }
 {
     let prefix = shared.grammar.prefix.as_str();
-    let symbol = shared.symbols.spanned_symbol.as_str();
-    Ok(made(format!(in alloc; "{prefix}symbols: &mut alloc::vec::Vec<{symbol}>")?))
+    let symbols = vec_of(alloc, shared.symbols.spanned_symbol.as_str())?;
+    Ok(made(format!(in alloc; "{prefix}symbols: &mut {symbols}")?))
 }
 
 /// What the function that reduces by any production answers.
+#[tactic(auto, unfolding(crate::specs::ReductionLines::reduce_answer))]
 fn reduce_answer<'t>(alloc: Global, shared: &Shared<'t>) -> Result<Piece<'t>, AllocError>
     ensures { IfOk result (λ p. p ≡ reduce_answer shared.now.grammar.now (start_of shared.now.start)) }
 {
@@ -191,6 +210,7 @@ fn own_function<'t>(
 }
 
 /// Its header.
+#[tactic(auto, unfolding(crate::specs::ReductionLines::own_header))]
 fn own_header<'t>(alloc: Global, shared: &Shared<'t>, number: usize) -> Result<Node<'t>, AllocError>
     ensures { IfOk result (λ n. items n ≡ own_header shared.now.grammar.now number) }
 {
@@ -200,8 +220,16 @@ fn own_header<'t>(alloc: Global, shared: &Shared<'t>, number: usize) -> Result<N
     let parameters = vec![in alloc; lookahead, symbols, phantom]?;
     let name = FunctionName::ReduceProduction(number as u64);
     let generics = Vec::new(alloc);
-    let result = lent("(usize, usize)");
+    let result = places_type();
     grammar_header(alloc, shared.grammar, name, generics, parameters, result)
+}
+
+/// Where a reduction starts and ends.
+#[tactic(auto, unfolding(crate::specs::ReductionLines::places_type))]
+fn places_type<'t>() -> Piece<'t>
+    ensures { result ≡ places_type }
+{
+    lent("(usize, usize)")
 }
 
 /// The lines of a reduction.
@@ -301,6 +329,7 @@ fn symbol_arguments(alloc: Global, prefix: &str, symbols: usize) -> Result<Strin
 }
 
 /// The names of so many popped symbols.
+#[tactic(auto, using(std::proofs::lemmas::Grind::common_steps, crate::proofs::Ranges::range_next))]
 fn symbol_names(alloc: Global, prefix: &str, symbols: usize) -> Result<Vec<Text>, AllocError>
     ensures { IfOk result (λ v. v.items ≡ map (symbol_name prefix.now) (range_with_len 0 symbols)) }
 {

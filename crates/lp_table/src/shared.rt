@@ -8,13 +8,13 @@ ghost use Rattle.lp_repr.specs.Numbering.{nonterminal_number, productions_of, sy
 ghost use Rattle.lp_repr.specs.Shown.{parameter_text};
 ghost use Rattle.lp_parts.specs.Phantom.{phantom_expression_of, phantom_type_of};
 ghost use Rattle.lp_parts.specs.StateType.{state_type_of};
-ghost use Rattle.lp_parts.specs.Texts.{arguments_of, each_with_comma, error_text, generic_names_text, location_text, parse_error_text, spanned_symbol_of, symbol_clauses_text, symbol_parameters, symbol_parameters_text, symbol_text, token_text, triple_text};
+ghost use Rattle.lp_parts.specs.Texts.{arguments_of, each_with_comma, error_text, generic_names_text, location_text, parse_error_text, symbol_clauses_text, symbol_parameters, symbol_parameters_text, symbol_text, token_text, triple_text};
 ghost use Rattle.lp_parts.specs.Variants.{nonterminal_type, nonterminal_variants, terminal_type, terminal_variants};
 ghost use Rattle.lp_repr.specs.ShownTypes.{type_text};
 ghost use Rattle.lp_repr.specs.declared.repr.NonterminalString.{NonterminalString};
 ghost use Rattle.lp_repr.specs.declared.repr.TerminalString.{TerminalString};
-ghost use Rattle.lp_table.specs.Pieces.{variant_types_shown};
-ghost use Rattle.lp_table.specs.Starts.{is_fallible, is_start, start_for, start_of, symbol_type, visibility_or_none};
+ghost use Rattle.lp_table.specs.Pieces.{spanned_symbol_text, variant_types_shown};
+ghost use Rattle.lp_table.specs.Starts.{is_fallible, is_start, location_name, state_name, start_for, start_of, symbol_type, visibility_or_none};
 
 use lp_parts::number_type::state_type;
 use lp_parts::texts::{ParameterTexts, SymbolTexts, TypeTexts};
@@ -129,7 +129,7 @@ pub struct Shared<'t> {
     ghost symbol_parameters_shown: { string_bytes symbols.parameters ≡ symbol_parameters_text grammar.now },
     ghost symbol_clauses_shown: { string_bytes symbols.clauses ≡ symbol_clauses_text grammar.now },
     ghost symbol_shown: { string_bytes symbols.symbol ≡ symbol_text grammar.now },
-    ghost spanned_symbol_shown: { string_bytes symbols.spanned_symbol ≡ spanned_symbol_of (location_text grammar.now) (symbol_text grammar.now) },
+    ghost spanned_symbol_shown: { string_bytes symbols.spanned_symbol ≡ spanned_symbol_text grammar.now },
     ghost generics_shown: { string_bytes parameters.type_parameters ≡ each_with_comma (map parameter_text grammar.now.type_parameters) },
     ghost generic_names_shown: { string_bytes parameters.generic_names ≡ generic_names_text grammar.now },
     ghost arguments_shown: { string_bytes parameters.arguments ≡ arguments_of grammar.now.parameters },
@@ -172,6 +172,22 @@ impl<'t> Shared<'t> {
             productions,
             variants,
         })
+    }
+
+    /// The type of states.
+    #[tactic(auto, unfolding(crate::specs::Starts::state_name))]
+    pub fn state_name(&self) -> &str
+        ensures { result.now ≡ state_name self.now.grammar.now self.now.states.now }
+    {
+        self.state_type
+    }
+
+    /// The type of locations.
+    #[tactic(auto, unfolding(crate::specs::Starts::location_name))]
+    pub fn location_name(&self) -> &str
+        ensures { result.now ≡ location_name self.now.grammar.now }
+    {
+        self.types.location.as_str()
     }
 
     /// The number of a nonterminal, if it is declared.

@@ -1,4 +1,4 @@
-use Rattle.std.proofs.Common.{◌≡◌, ℕ, List, ap, sym, ◌∙◌, length, map}
+use Rattle.std.proofs.Common.{◌≡◌, ℕ, List, ap, sym, ◌∙◌, length, map, arith}
 use Rattle.std.proofs.lemmas.List.{length-map}
 use Rattle.std.specs.Map.Iter.{deref}
 use Rattle.lp_repr.specs.Numbering.{nonterminal_number, terminal_number}
@@ -6,15 +6,18 @@ use Rattle.lp_repr.specs.ShownTypes.{type_text}
 use Rattle.lp_repr.specs.declared.repr.Grammar.{Grammar}
 use Rattle.lp_parts.specs.StateType.{state_type_of}
 use Rattle.lp_parts.specs.Texts.{spanned_symbol_of, symbol_text}
+use Rattle.lp_table.specs.Pieces.{spanned_symbol_text}
 use Rattle.lp_table.proofs.shared.Shared.new.Goals as goal
 
 pub invariant_of-result : goal.invariant_of-result
+unfolding spanned_symbol_text
 invariant_of-result c =
     let grammar = c.args.grammar.now in
     let productions = c.in_ok-productions.productions.items in
+    let count : c.len.result ≡ length productions = omega (arith, c.len.ensures, c.in_ok-productions.productions.ok.0) in
     record {
       state_type_fits = c.state_type.ensures
-          ∙ ap (λ (n : ℕ). state_type_of (length c.args.states.now) n) (sym (length-map productions deref) ∙ ap length c.in_ok-productions.ensures);
+          ∙ ap (λ (n : ℕ). state_type_of (length c.args.states.now) n) (count ∙ (sym (length-map productions deref) ∙ ap length c.in_ok-productions.ensures));
       location_shown = c.in_ok-types.ensures.location;
       token_shown = c.in_ok-types.ensures.token;
       error_shown = c.in_ok-types.ensures.error;
@@ -25,7 +28,7 @@ invariant_of-result c =
       symbol_clauses_shown = c.in_ok-symbols.ensures.clauses;
       symbol_shown = c.in_ok-symbols.ensures.symbol;
       spanned_symbol_shown = c.in_ok-symbols.ensures.spanned_symbol
-          ∙ ap (λ (l : List ℕ). spanned_symbol_of l (symbol_text grammar)) (c.as_str.ensures ∙ c.in_ok-types.ensures.location);
+          ∙ ap (λ (l : List ℕ). spanned_symbol_of l (symbol_text grammar)) (c.as_str.ensures.value ∙ c.in_ok-types.ensures.location);
       generics_shown = c.in_ok-parameters.ensures.type_parameters;
       generic_names_shown = c.in_ok-parameters.ensures.generic_names;
       arguments_shown = c.in_ok-parameters.ensures.arguments;
