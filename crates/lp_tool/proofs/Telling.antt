@@ -1,6 +1,7 @@
 -- From what is told of a grammar to what a call tells.
-use Rattle.std.proofs.Common.{◌≡◌, ◌⊎◌, ℕ, List, [], Option, Some, None, ⊎_elim, subst, sym, refl, tt}
+use Rattle.std.proofs.Common.{◌≡◌, ◌≢◌, ◌⊎◌, ℕ, true, false, List, [], Option, Some, None, Result, Ok, Err, IfOk, unwrap_or, ⊎_elim, length, subst, sym, refl, ap}
 use Rattle.lp_emit.specs.Causes.{MayBeEmitted, Refuses}
+use Rattle.lp_emit.specs.Texts.{IsEmission}
 use Rattle.lp_emit.specs.declared.errors.EmitError.{EmitError}
 use Rattle.lp_emit.specs.declared.errors.EmitError.TheVariants as emit
 use Rattle.lp_plain.specs.Front.{LowersTo}
@@ -13,12 +14,17 @@ use Rattle.lp_valid.specs.Refusals.{RefusesGrammar}
 use Rattle.lp_valid.specs.declared.grammars.GrammarFault.TheVariants.{Rule}
 use Rattle.lp_lines.specs.File.{IsCutFile}
 use Rattle.lp_write.specs.Sinks.{Told}
+use Rattle.lp_write.specs.declared.rust.Options.{Options}
+use Rattle.lp_tool.specs.Command.{looks}
+use Rattle.lp_tool.specs.Outputs.{IsRunOutput, IsTailIn}
 use Rattle.lp_tool.specs.Causes.{IsOfFile, IsStop, Written}
-use Rattle.lp_tool.specs.Told.{AreTablesOrNone, Holds, IsEmitted, IsMade, IsRefusal, IsRefused, Tells, TellsOf, ToldOf, Wrote}
+use Rattle.lp_tool.specs.Told.{AreTablesOrNone, Holds, IsEmitted, IsMade, IsPrepared, IsRefusal, IsRefused, Tells, TellsOf, ToldOf, Wrote}
 use Rattle.lp_tool.specs.declared.command.Command.{Command}
 use Rattle.lp_tool.specs.declared.command.Command.TheVariants as asked
+use Rattle.lp_tool.specs.declared.file.Stop.{Stop}
 use Rattle.lp_tool.specs.declared.status.Status.{Status}
 use Rattle.lp_tool.specs.declared.status.Status.TheVariants as status
+use Rattle.lp_tool.specs.declared.tool.Prepared.{Prepared}
 
 -- a stop with the plain grammar
 pub told_with : (plain : PlainGrammar) (g : Grammar) (s : Status) (answered : Option PlainGrammar) → LowersTo plain g → ToldOf g s → IsOfFile s → Holds plain s answered → Tells answered s
@@ -33,6 +39,20 @@ told_with plain g status.TooLong answered l t o h = tt
 told_with plain g status.ReadFault answered l t o h = tt
 told_with plain g status.WriteFault answered l t o h = absurd o
 told_with plain g status.Memory answered l t o h = tt
+
+-- a stop but for want of memory has the plain grammar
+pub holds : (plain : PlainGrammar) (s : Status) → s ≢ status.Memory → Holds plain s (Some plain)
+holds plain status.Done n = refl
+holds plain status.Usage n = refl
+holds plain (status.Grammar place) n = refl
+holds plain (status.Conflict start path token) n = refl
+holds plain (status.TooManyStates start paths) n = refl
+holds plain (status.Refused error) n = refl
+holds plain (status.TokenLine line) n = refl
+holds plain status.TooLong n = refl
+holds plain status.ReadFault n = refl
+holds plain status.WriteFault n = refl
+holds plain status.Memory n = absurd (n refl)
 
 -- an emission that is refused
 pub told_refused : (g : Grammar) (tables : List StartStates) (error : EmitError) (s : Status) → AreTablesOrNone g tables → Refuses g tables error → IsRefusal error s → ToldOf g s
@@ -51,8 +71,25 @@ told_refused g tables emit.WriteFault s a r i = absurd r
 pub emitted : (g : Grammar) (tables : List StartStates) → AreTablesOrNone g tables → MayBeEmitted g tables → IsEmitted g tables
 emitted g tables a m = ⊎_elim
     (λ (t : AreTablesOf g tables). (t, m))
-    (λ (t : (tables ≡ []) × ((rule : ℕ) × (place : ℕ) × RefusesGrammar g (Rule rule place))). absurd (not_valid g t.1.0 t.1.1.0 t.1.1.1 m.buildable.sound.1))
+    (λ (t : (tables ≡ []) × ((rule : ℕ) × (place : ℕ) × RefusesGrammar g (Rule rule place))). absurd (not_valid g t.1.0 t.1.1 t.1.2 m.buildable.sound.1))
     a
+
+-- what is made of a file by each command
+pub made_emit : (options : Options) (left : Option (List ℕ)) (plain : PlainGrammar) (g : Grammar) (tables : List StartStates) (text_len : ℕ) (output : List ℕ) → LowersTo plain g → AreTablesOrNone g tables → MayBeEmitted g tables → IsEmission g tables options output → text_len ≡ length output → IsMade (Some (asked.Emit options)) left plain tables text_len output
+made_emit options left plain g tables text_len output l a m e n = (g, l, emitted g tables a m, (e, n))
+
+pub made_run : (options : Options) (left : Option (List ℕ)) (plain : PlainGrammar) (g : Grammar) (tables : List StartStates) (tail : List ℕ) (text_len : ℕ) (output : List ℕ) → LowersTo plain g → AreTablesOrNone g tables → MayBeEmitted g tables → IsTailIn left tail → IsRunOutput g tables options tail text_len output → IsMade (Some (asked.Run options)) left plain tables text_len output
+made_run options left plain g tables tail text_len output l a m t r = (g, l, emitted g tables a m, (tail, t, r))
+
+pub made_make : (levels : ℕ) (left : Option (List ℕ)) (plain : PlainGrammar) (g : Grammar) (tables : List StartStates) (text_len : ℕ) (output text : List ℕ) → LowersTo plain g → AreTablesOrNone g tables → MayBeEmitted g tables → IsEmission g tables (looks false true) text → text_len ≡ length text → IsMade (Some (asked.Make levels)) left plain tables text_len output
+made_make levels left plain g tables text_len output text l a m e n = (g, l, emitted g tables a m, (text, e, n))
+
+some_same : (a b : List ℕ) → Some a ≡ Some b → a ≡ b
+some_same a b p = ap (λ (o : Option (List ℕ)). unwrap_or o a) p
+
+-- what follows the text of a file, told by its bytes
+pub tail_in : (bytes text tail tail' : List ℕ) → IsCutFile bytes text tail → tail' ≡ tail → IsTailIn (Some bytes) tail'
+tail_in bytes text tail tail' c e = λ told same. (text, subst (λ b. IsCutFile b text tail') (some_same bytes told same) (subst (IsCutFile bytes text) (sym e) c))
 
 -- what was prepared was written, or a part of it
 pub wrote : (command : Option Command) (left : Option (List ℕ)) (plain : PlainGrammar) (tables : List StartStates) (text_len : ℕ) (output : List ℕ) (old new : Told) (s : Status) → IsMade command left plain tables text_len output → Written old new output s → Wrote command left (Some plain) tables text_len old new s
@@ -86,5 +123,11 @@ stopped command left answered tables text_len old new status.Memory i e = e
 pub of_source : (command : Command) (left : Option (List ℕ)) (bytes : List ℕ) (plain : PlainGrammar) (tables : List StartStates) (text_len : ℕ) (output : List ℕ) → ((told : List ℕ) → left ≡ Some told → bytes ≡ told) → IsMade (Some command) (Some bytes) plain tables text_len output → IsMade (Some command) left plain tables text_len output
 of_source (asked.Emit options) left bytes plain tables text_len output same m = m
 of_source (asked.Run options) left bytes plain tables text_len output same m =
-    (m.0, m.1, m.2, m.3.0, (λ told e. subst (λ b. (text : List ℕ) × IsCutFile b text m.3.0) (same told e) (m.3.1 bytes refl)), m.3.2)
+    (m.0, m.1, m.2, (m.3.0, (λ told e. subst (λ b. (text : List ℕ) × IsCutFile b text m.3.0) (same told e) (m.3.1 bytes refl)), m.3.2))
 of_source (asked.Make levels) left bytes plain tables text_len output same m = m
+
+-- what was prepared of the bytes that were read was prepared of the source
+pub prepared_of : (result : Result Prepared Stop) (command : Command) (named : Option Command) (left : Option (List ℕ)) (bytes : List ℕ) → named ≡ Some command → ((told : List ℕ) → left ≡ Some told → bytes ≡ told) → IfOk result (IsPrepared (Some command) (Some bytes)) → IfOk result (IsPrepared named left)
+prepared_of (Ok p) command named left bytes e same h =
+    subst (λ (n : Option Command). IsPrepared n left p) (sym e) (of_source command left bytes p.grammar p.tables.items p.text_len p.output.items same h)
+prepared_of (Err stop) command named left bytes e same h = h

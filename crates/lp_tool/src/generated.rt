@@ -7,9 +7,8 @@ ghost use Rattle.lp_tool.specs.declared.command.Command.{Command};
 
 use crate::file::{Stop, file_of};
 use crate::status::Status;
-use crate::tool::{Prepared, refused};
+use crate::tool::{Prepared, emitted};
 use lp_driver::RunError;
-use lp_emit::emitted_text;
 use lp_plain::{make_items, make_text};
 use lp_program::read_program;
 use lp_run::{Run, run_program};
@@ -34,14 +33,9 @@ pub fn prepare_generated(alloc: Global, levels: u8) -> Result<Prepared, Stop>
         Some(table) => table.states.as_slice().len(),
         None => 0,
     };
-    let text = match emitted_text(
-        alloc,
-        &file.lowered,
-        file.tables.as_slice(),
-        &Options::default(),
-    ) {
+    let text = match emitted(alloc, &file, &Options::default()) {
         Ok(text) => text,
-        Err(error) => return Err(Stop::with(refused(error), file.plain)),
+        Err(status) => return Err(Stop::with(status, file.plain)),
     };
     let output = match report(alloc, text.as_str(), states, levels) {
         Ok(output) => output,

@@ -2,6 +2,7 @@
 
 ghost use Rattle.std.specs.Prelude.{◌≡◌, ◌≢◌, ◌++◌, ◌∷◌, ℕ, List, [], length, codes, string_bytes, IfErr, IfOk, OnOk, None, Some};
 ghost use Rattle.lp_emit.specs.Causes.{MayBeEmitted};
+ghost use Rattle.lp_emit.specs.Texts.{IsEmission};
 ghost use Rattle.lp_tool.specs.Command.{command_of};
 ghost use Rattle.lp_tool.specs.Causes.{Causes, IsOfFile, IsOfWriting, IsStop, StopsReading, Written};
 ghost use Rattle.lp_tool.specs.Outputs.{AreLinesOf, IsRunOutput};
@@ -79,7 +80,7 @@ fn stopped(alloc: Global, stop: Stop) -> Report
     Report {
         status: stop.status,
         grammar: stop.grammar,
-        tables: Items::new(alloc),
+        tables: Items(Vec::new(alloc)),
         text_len: 0,
     }
 }
@@ -136,8 +137,8 @@ fn prepare_emit(alloc: Global, bytes: &[u8], options: Options) -> Result<Prepare
     ensures prepared { IfOk result (IsPrepared (Some (Command.Emit options)) (Some bytes.now)) }
 {
     let file = file_of(alloc, bytes)?;
-    match emitted_text(alloc, &file.lowered, file.tables.as_slice(), &options) {
-        Err(error) => Err(Stop::with(refused(error), file.plain)),
+    match emitted(alloc, &file, &options) {
+        Err(status) => Err(Stop::with(status, file.plain)),
         Ok(text) => Ok(Prepared {
             grammar: file.plain,
             tables: file.tables,
@@ -173,10 +174,7 @@ fn text_and_runs(alloc: Global, file: &File, options: &Options) -> Result<(usize
     ensures output { IfOk result (λ both. IsRunOutput file.now.lowered file.now.tables.items options.now file.now.tail.items both.0 both.1.items) }
 {
     let lines = token_lines(alloc, &file.lowered, file.tail.as_slice())?;
-    let text = match emitted_text(alloc, &file.lowered, file.tables.as_slice(), options) {
-        Ok(text) => text,
-        Err(error) => return Err(refused(error)),
-    };
+    let text = emitted(alloc, file, options)?;
     let params = match parameter_values(alloc, &file.lowered) {
         Ok(params) => params,
         Err(AllocError) => return Err(Status::Memory),
@@ -187,6 +185,20 @@ fn text_and_runs(alloc: Global, file: &File, options: &Options) -> Result<(usize
             Err(AllocError) => Err(Status::Memory),
         },
         Err(fault) => Err(unrun(fault)),
+    }
+}
+
+/// The parser text of a file.
+pub fn emitted(alloc: Global, file: &File, options: &Options) -> Result<String, Status>
+    requires { AreTablesOrNone file.now.lowered file.now.tables.items }
+    ensures stops { IfErr result IsOfFile }
+    ensures told { IfErr result (ToldOf file.now.lowered) }
+    ensures emitted { OnOk result (MayBeEmitted file.now.lowered file.now.tables.items) }
+    ensures text { IfOk result (λ text. IsEmission file.now.lowered file.now.tables.items options.now (string_bytes text)) }
+{
+    match emitted_text(alloc, &file.lowered, file.tables.as_slice(), options) {
+        Ok(text) => Ok(text),
+        Err(error) => Err(refused(error)),
     }
 }
 
@@ -224,7 +236,7 @@ fn joined(text: String, blocks: &[u8]) -> Result<(usize, Vec<u8>), AllocError>
 }
 
 /// The status that tells of a refused emission.
-pub fn refused(error: EmitError) -> Status
+fn refused(error: EmitError) -> Status
     ensures stops { IsOfFile result }
     ensures refusal { IsRefusal error result }
 {

@@ -1,0 +1,18 @@
+use Rattle.std.proofs.Common.{rules, Some, refl}
+use Rattle.lp_emit.specs.Causes.{MayBeEmitted}
+use Rattle.lp_tool.specs.Outputs.{IsRunOutput}
+use Rattle.lp_tool.proofs.Telling.{made_run, tail_in}
+use Rattle.lp_tool.proofs.tool.prepare_run.Goals as goal
+
+pub returns-in-Err-clause-told : goal.returns-in-Err-clause-told
+returns-in-Err-clause-told c =
+    c.with.ensures.told c.in_ok-file.file.lowered c.in_ok-file.ensures.file.lowered c.in-Err.ensures.told c.in-Err.ensures.stops
+
+pub returns-in-Ok-clause-prepared : goal.returns-in-Ok-clause-prepared
+returns-in-Ok-clause-prepared c =
+    let g = c.in_ok-file.file.lowered in
+    let tables = c.in_ok-file.file.tables.items in
+    let tail = c.in_ok-file.file.tail.items in
+    let may : MayBeEmitted c.in_ok-file.file.lowered c.in_ok-file.file.tables.items = search rules in
+    let run : IsRunOutput c.in_ok-file.file.lowered c.in_ok-file.file.tables.items c.args.options c.in_ok-file.file.tail.items c.in-Ok.text_len c.in-Ok.output.items = search rules in
+    made_run c.args.options (Some c.args.bytes.now) c.in_ok-file.file.plain g tables tail c.in-Ok.text_len c.in-Ok.output.items c.in_ok-file.ensures.file.lowered c.in_ok-file.ensures.file.tables may (tail_in c.args.bytes.now c.in_ok-file.ensures.file.tail.0 tail tail c.in_ok-file.ensures.file.tail.1 refl) run
