@@ -45,20 +45,38 @@ fn a_file_gives_its_grammar_with_its_states(rt: HostRuntime) -> Result<(), Fail>
 }
 
 #[test]
-fn a_fault_tells_its_cause(rt: HostRuntime) -> Result<(), Fail> {
+fn a_file_without_starts_has_no_tables(rt: HostRuntime) -> Result<(), Fail> {
     let alloc = rt.alloc();
-    let table = [
-        (
-            "grammar; extern { enum T { \"a\" => T::A } } pub S: () = \"b\" => ();",
-            FrontFault::Grammar { place: 56 },
-        ),
-        (
-            "grammar; extern { enum T { \"a\" => T::A } } S: () = \"a\" => ();",
-            FrontFault::BadGrammar { rule: 1, place: 0 },
-        ),
-    ];
-    for (text, want) in table {
-        assert!(rt; read(alloc, text).err() == Some(want), "at {text}");
+    let text = "grammar; extern { enum T { \"a\" => T::A } } S: () = \"a\" => ();";
+    let file = read(alloc, text).ok().ok_or("a file")?;
+    assert_eq!(rt; file.tables.len(), 0, "starts");
+    assert_eq!(rt; file.tail.len(), 0, "the tail");
+    Ok(())
+}
+
+#[test]
+fn an_unknown_name_is_told_at_its_place(rt: HostRuntime) -> Result<(), Fail> {
+    let alloc = rt.alloc();
+    let text = "grammar; extern { enum T { \"a\" => T::A } } pub S: () = \"b\" => ();";
+    let fault = read(alloc, text).err();
+    assert!(rt;
+        fault == Some(FrontFault::Grammar { place: 55 }),
+        "the terminal"
+    );
+    Ok(())
+}
+
+#[test]
+fn a_conflict_is_told_after_its_path(rt: HostRuntime) -> Result<(), Fail> {
+    let alloc = rt.alloc();
+    let text =
+        "grammar; extern { enum T { \"a\" => T::A } } pub S: () = { \"a\" => (), \"a\" => () };";
+    match read(alloc, text) {
+        Err(FrontFault::Conflict { start, path, .. }) => {
+            assert_eq!(rt; start, 0, "its start");
+            assert_eq!(rt; path.as_slice().len(), 1, "its path");
+        }
+        _ => assert!(rt; false, "a conflict"),
     }
     Ok(())
 }
