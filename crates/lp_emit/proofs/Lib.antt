@@ -1,3 +1,4 @@
 pub mod Firsts
 pub mod Modules
+pub mod Programs
 pub mod Shifts

@@ -1,4 +1,3 @@
-pub mod ActionLines
 pub mod Built
 pub mod Causes
 pub mod Clashes

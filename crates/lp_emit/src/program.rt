@@ -4,8 +4,7 @@ ghost use Rattle.std.specs.Prelude.{◌≡◌, ◌<◌, ◌++◌, length, map, c
 ghost use Rattle.std.specs.BTreeMap.{btree_map_len};
 ghost use Rattle.std.specs.List.{flat_map};
 ghost use Rattle.std.specs.Map.Iter.{deref_pair};
-ghost use Rattle.lp_emit.specs.Built.{AreFollowed, AreModules, IsBuilt, IsModule, IsModuleWithName, attribute_lines, back_lines, front_lines, implementations, joined_clauses, reexport_lines, token_lines, triple_lines, use_lines};
-ghost use Rattle.lp_emit.specs.ActionLines.{AreTypesOf};
+ghost use Rattle.lp_emit.specs.Built.{AreFollowed, AreModules, AreTypesOf, IsBuilt, IsModule, IsModuleWithName, attribute_lines, front_lines, implementations, joined_clauses, reexport_lines, token_lines, triple_lines, use_lines};
 ghost use Rattle.lp_parts.specs.Entries.{EntriesFit};
 ghost use Rattle.lp_repr.specs.ShownTypes.{clause_text};
 ghost use Rattle.lp_tree.specs.ProgramTree.{items};
@@ -34,8 +33,10 @@ pub fn build_program<'t>(
 {
     let mut below = Vec::new(alloc);
     add_front(alloc, &mut below, grammar)?;
-    below.append(&mut modules(alloc, grammar, states)?)?;
-    add_back(alloc, &mut below, grammar)?;
+    put_all(&mut below, modules(alloc, grammar, states)?)?;
+    add_tokens(alloc, &mut below, grammar)?;
+    put_all(&mut below, action_functions(alloc, grammar)?)?;
+    put(&mut below, triples(alloc, grammar)?)?;
     program(alloc, lent(grammar.prefix.as_str()), below)
 }
 
@@ -78,20 +79,6 @@ fn add_uses<'t>(
     for text in texts {
         below.push(use_line(alloc, lent(text.as_str()))?)?;
     }
-    Ok(())
-}
-
-/// Adds what stands behind the modules.
-fn add_back<'t>(
-    alloc: Global,
-    below: &mut Vec<Node<'t>>,
-    grammar: &'t Grammar,
-) -> Result<(), AllocError>
-    ensures { OnOk result (flat_map items below.new.items ≡ flat_map items below.old.items ++ back_lines grammar.entry.now) }
-{
-    add_tokens(alloc, below, grammar)?;
-    below.append(&mut action_functions(alloc, grammar)?)?;
-    below.push(triples(alloc, grammar)?)?;
     Ok(())
 }
 
@@ -170,6 +157,15 @@ fn add_module<'t>(
     let named = reexport_of(alloc, grammar, public_name, start)?;
     put(nodes, inside)?;
     put(nodes, named)
+}
+
+/// Puts nodes behind others.
+fn put_all<'t>(nodes: &mut Vec<Node<'t>>, others: Vec<Node<'t>>) -> Result<(), AllocError>
+    ensures { OnOk result (flat_map items nodes.new.items ≡ flat_map items nodes.old.items ++ flat_map items others.entry.items) }
+{
+    let mut behind = others;
+    nodes.append(&mut behind)?;
+    Ok(())
 }
 
 /// Puts a node behind others.
