@@ -1,0 +1,3 @@
+pub mod AscentTrials
+pub mod AscentReductions
+pub mod AscentStates

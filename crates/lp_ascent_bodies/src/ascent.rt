@@ -1,34 +1,72 @@
 //! Recursive ascent: the `parse` method and the state functions.
 
-use crate::ascent_reduce::{ascent_reduce, expected_error};
+ghost use Rattle.std.specs.Prelude.{◌≡◌, IfOk, OnOk};
+ghost use Rattle.std.specs.Option.{option_map};
+ghost use Rattle.lp_view.specs.PartLists.{hole_of, listed};
+ghost use Rattle.lp_maker.specs.Making.{Making, making, with_variant, variant_tag};
+ghost use Rattle.lp_maker.specs.Slots.{Names};
+ghost use Rattle.lp_bodies.specs.Arms.{gathered, with_case, with_body};
+ghost use Rattle.lp_bodies.specs.Lines.{lines_of};
+ghost use Rattle.lp_bodies.specs.Reductions.{done_of};
+ghost use Rattle.lp_ascent_bodies.specs.AscentReductions.{give_made, take_line};
+ghost use Rattle.lp_ascent_bodies.specs.AscentStates.{source_triple, source_error, item_value, next_token, after_token, first_call, start_value, started, start, slot_line, take_row, take_rows, push_state, state_call, call_state, transition, found_transition, empty_check, goto_arm, goto_arm_names, going_of, going_row, going_rows, goto_other, goto_turn, goto_loop};
+
+use crate::ascent_reduce::{ascent_reduce, expected_error, returns};
+use lp_bodies::arms::Arms;
+use lp_bodies::lines::push_let;
 use lp_bodies::reduce::vec_type;
-use lp_bodies::table::captured;
+use lp_bodies::table::{captured, choice_at};
 use lp_core::{Case, Expr, Function, Join, Leaf, Op, Place, StateType, Tag, Test};
 use lp_form::Part;
-use lp_maker::forms::{Form, first};
+use lp_maker::forms::{Form, first, is_a};
 use lp_maker::maker::{Maker, here};
+use lp_maker::patterns::form_of;
 use lp_maker::scope::Scope;
-use lp_maker::texts::{form_of, numbered, parted, wide_number};
-use lp_repr::Text;
+use lp_maker::texts::{numbered, parted, wide_number};
 use std::alloc::AllocError;
 
 /// `match ~tokens.next() { .. }`: the next token, where an error of the token source is returned.
-pub fn next_token<'p>(maker: &Maker<'p>, scope: &mut Scope) -> Result<Expr, AllocError> {
+pub fn next_token<'p>(maker: &Maker<'p>, scope: &mut Scope) -> Result<Expr, AllocError>
+    ensures value { IfOk result (λ v. v ≡ next_token (making maker.now) scope.old) }
+    ensures names { OnOk result (scope.new ≡ after_token scope.old) }
+{
     let item = scope.fresh();
     let token = scope.fresh();
-    let error = Expr::take(token);
-    let (triple, error) = match maker.item_closure {
-        Some(closure) => {
-            let args = vec![in maker.alloc; Expr::take(item)]?;
-            (Expr::call(closure, args), error)
-        }
-        None => (Expr::take(item), maker.apply(Op::UserError, error)?),
-    };
+    let inside = item_value(maker, item, token)?;
+    maker.on_option(Expr::plain(Leaf::NextItem), item, maker.absent(), inside)
+}
+
+// The item in a slot as a triple, or the return of its fault.
+fn item_value<'p>(maker: &Maker<'p>, item: usize, token: usize) -> Result<Expr, AllocError>
+    ensures { IfOk result (λ v. v ≡ item_value (making maker.now).item_closure item token) }
+{
+    let triple = source_triple(maker, item)?;
+    let error = source_error(maker, token)?;
     let some = maker.apply(Op::Wrap(Tag::Present), Expr::take(token))?;
     let bad = maker.apply(Op::Wrap(Tag::Failure), error)?;
     let back = maker.give_back(bad)?;
-    let inside = maker.on_result(triple, token, some, back)?;
-    maker.on_option(Expr::plain(Leaf::NextItem), item, maker.absent(), inside)
+    maker.on_result(triple, token, some, back)
+}
+
+fn source_triple<'p>(maker: &Maker<'p>, item: usize) -> Result<Expr, AllocError>
+    ensures { IfOk result (λ v. v ≡ source_triple (making maker.now).item_closure item) }
+{
+    match maker.item_closure {
+        None => Ok(Expr::take(item)),
+        Some(closure) => {
+            let args = vec![in maker.alloc; Expr::take(item)]?;
+            Ok(Expr::call(closure, args))
+        }
+    }
+}
+
+fn source_error<'p>(maker: &Maker<'p>, token: usize) -> Result<Expr, AllocError>
+    ensures { IfOk result (λ v. v ≡ source_error (making maker.now).item_closure token) }
+{
+    match maker.item_closure {
+        None => maker.apply(Op::UserError, Expr::take(token)),
+        Some(_) => Ok(Expr::take(token)),
+    }
 }
 
 /// The body of `parse`.
@@ -36,43 +74,68 @@ pub fn start<'p>(
     maker: &mut Maker<'p>,
     scope: &mut Scope,
     form: Form<'p>,
-) -> Result<Expr, AllocError> {
+) -> Result<Expr, AllocError>
+    ensures { IfOk result (λ v. done_of v scope.new (making maker.new) ≡ start (making maker.old) scope.old (listed form.entry)) }
+{
     let mut parts = Vec::new(maker.alloc);
     let token = next_token(maker, scope)?;
-    let lookahead = scope.bind(maker.alloc, "~lookahead")?;
-    parts.push(maker.write(lookahead, token)?)?;
-    let states = scope.bind(maker.alloc, "~states")?;
-    parts.push(maker.write(states, Expr::plain(Leaf::NewStates))?)?;
+    let lookahead = push_let(maker, scope, "~lookahead", "", token, &mut parts)?;
+    let list = Expr::plain(Leaf::NewStates);
+    let states = push_let(maker, scope, "~states", "", list, &mut parts)?;
+    let call = first_call(maker, scope, form, lookahead, states)?;
+    let answer = maker.tried(scope, call)?;
+    let left = scope.fresh_many(2);
+    let variant = maker.variant(form.hole(3))?;
+    let last = started(maker, variant, left, answer)?;
+    parts.push(last)?;
+    Ok(Expr::block(parts))
+}
+
+// The call of the first state.
+fn first_call<'p>(
+    maker: &Maker<'p>,
+    scope: &Scope,
+    form: Form<'p>,
+    lookahead: usize,
+    list: usize,
+) -> Result<Expr, AllocError>
+    ensures { IfOk result (λ v. v ≡ first_call (making maker.now) (listed form.entry) scope.now lookahead list) }
+{
     let mut args = Vec::new(maker.alloc);
     maker.arguments(scope, form.hole(1), &mut args)?;
     args.push(Expr::plain(Leaf::Empty(Tag::Tuple)))?;
-    args.push(Expr::read(states))?;
+    args.push(Expr::read(list))?;
     args.push(Expr::read(lookahead))?;
-    let call = maker.call("state", "0", args)?;
-    let answer = maker.tried(scope, call)?;
-    parts.push(started(maker, scope, form, answer)?)?;
-    Ok(Expr::block(parts))
+    maker.call("state", "0", args)
 }
 
 // Answers by what is left and what was made: a token that is left is an error.
 fn started<'p>(
-    maker: &mut Maker<'p>,
-    scope: &mut Scope,
-    form: Form<'p>,
+    maker: &Maker<'p>,
+    variant: Tag,
+    left: usize,
     answer: Expr,
-) -> Result<Expr, AllocError> {
-    let (left, unpacked) = maker.unpack(scope, 2, answer)?;
-    let made = left.saturating_add(1);
+) -> Result<Expr, AllocError>
+    ensures { IfOk result (λ v. v ≡ started variant left answer) }
+{
+    let unpacked = maker.apply(Op::Parts(left, 2), answer)?;
     let error = maker.apply(Op::ExtraToken, Expr::take(left))?;
     let extra = maker.apply(Op::Wrap(Tag::Failure), error)?;
-    let variant = maker.variant(form.hole(3))?;
-    let triple = maker.opened(made, maker.apply(Op::Part(1), Expr::take(made))?)?;
+    let value = start_value(maker, variant, left.saturating_add(1))?;
+    let choice = maker.on_option(Expr::take(left), left, value, extra)?;
+    Ok(Expr::block(vec![in maker.alloc; unpacked, choice]?))
+}
+
+// What was made, if it is the start's.
+fn start_value<'p>(maker: &Maker<'p>, variant: Tag, made: usize) -> Result<Expr, AllocError>
+    ensures { IfOk result (λ v. v ≡ start_value variant made) }
+{
+    let triple = maker.apply(Op::Part(1), Expr::take(made))?;
+    let triple = maker.opened(made, triple)?;
     let good = maker.apply(Op::Wrap(Tag::Success), triple)?;
     let cases = vec![in maker.alloc; here(Test::Is(variant), 0)]?;
     let bodies = vec![in maker.alloc; good, Expr::stuck()]?;
-    let value = Expr::select(maker.alloc, Expr::take(made), made, cases, bodies)?;
-    let choice = maker.on_option(Expr::take(left), left, value, extra)?;
-    Ok(Expr::block(vec![in maker.alloc; unpacked, choice]?))
+    Expr::select(maker.alloc, Expr::take(made), made, cases, bodies)
 }
 
 /// What all lines of a state function share.
@@ -123,7 +186,7 @@ pub fn state_fn<'p>(maker: &mut Maker<'p>, form: Form<'p>) -> Result<Function, A
             _ => {}
         }
     }
-    let Arms { cases, bodies } = arms;
+    let Arms { cases, bodies, .. } = arms;
     let token = Expr::take(lines.lookahead);
     parts.push(Expr::select(maker.alloc, token, lines.lookahead, cases, bodies)?)?;
     if let Some(rest) = after {
@@ -132,24 +195,10 @@ pub fn state_fn<'p>(maker: &mut Maker<'p>, form: Form<'p>) -> Result<Function, A
     Ok(maker.function(params, &scope, Expr::block(parts)))
 }
 
-/// The arms of a match on the lookahead.
-#[derive(Drop)]
-pub struct Arms {
-    cases: Vec<Case>,
-    bodies: Vec<Expr>,
-}
-
-impl Arms {
-    fn new(alloc: std::alloc::Global) -> Arms {
-        Arms {
-            cases: Vec::new(alloc),
-            bodies: Vec::new(alloc),
-        }
-    }
-}
-
 /// `return Ok(~result);`.
-pub fn give_made<'p>(maker: &Maker<'p>, lines: Lines) -> Result<Expr, AllocError> {
+pub fn give_made<'p>(maker: &Maker<'p>, lines: Lines) -> Result<Expr, AllocError>
+    ensures { IfOk result (λ v. v ≡ give_made lines) }
+{
     let good = maker.apply(Op::Wrap(Tag::Success), Expr::read(lines.made))?;
     maker.give_back(good)
 }
@@ -160,11 +209,12 @@ fn slot_line<'p>(
     scope: &mut Scope,
     line: Form<'p>,
     parts: &mut Vec<Expr>,
-) -> Result<(), AllocError> {
+) -> Result<(), AllocError>
+    ensures { OnOk result (lines_of scope.new parts.new.items ≡ slot_line (listed line.entry) (lines_of scope.old parts.old.items)) }
+{
     let name = numbered(maker.alloc, "~sym", line.hole(0))?;
     let cell = maker.apply(Op::NewCell, maker.name(scope, name.as_str()))?;
-    let slot = scope.bind(maker.alloc, name.as_str())?;
-    parts.push(maker.write(slot, cell)?)?;
+    push_let(maker, scope, "~sym", line.hole(0), cell, parts)?;
     Ok(())
 }
 
@@ -174,11 +224,12 @@ pub fn take_line<'p>(
     scope: &mut Scope,
     line: Form<'p>,
     parts: &mut Vec<Expr>,
-) -> Result<(), AllocError> {
+) -> Result<(), AllocError>
+    ensures { OnOk result (lines_of scope.new parts.new.items ≡ take_line (listed line.entry) (lines_of scope.old parts.old.items)) }
+{
     let name = numbered(maker.alloc, "~sym", line.hole(0))?;
     let taken = maker.apply(Op::TakeOut, maker.name(scope, name.as_str()))?;
-    let slot = scope.bind(maker.alloc, name.as_str())?;
-    parts.push(maker.write(slot, taken)?)?;
+    push_let(maker, scope, "~sym", line.hole(0), taken, parts)?;
     Ok(())
 }
 
@@ -218,45 +269,128 @@ fn shift_arm<'p>(
     let name = numbered(maker.alloc, "~sym", line.hole(1))?;
     let symbol = scope.bind(maker.alloc, name.as_str())?;
     parts.push(maker.write(symbol, Expr::join(Join::Make(Tag::Tuple), triple))?)?;
-    match first(line) {
-        None => parts.push(Expr::stuck())?,
-        Some(form) => transition(maker, scope, lines, form, &mut parts)?,
-    }
+    found_transition(maker, scope, lines, first(line), &mut parts)?;
     scope.close(mark);
     arms.bodies.push(Expr::block(parts))?;
     Ok(())
 }
 
+// The move to another state, and back.
 fn transition<'p>(
-    maker: &mut Maker<'p>,
+    maker: &Maker<'p>,
     scope: &mut Scope,
     lines: Lines,
     form: Form<'p>,
     parts: &mut Vec<Expr>,
-) -> Result<(), AllocError> {
-    let mut returns = false;
-    for line in form.parts() {
-        match line.part() {
-            Part::TakeLine => take_line(maker, scope, line, parts)?,
-            Part::ReturnLine => returns = true,
-            _ => {}
-        }
+) -> Result<(), AllocError>
+    ensures { OnOk result (lines_of scope.new parts.new.items ≡ transition (making maker.now) lines (listed form.entry) (lines_of scope.old parts.old.items)) }
+{
+    take_rows(maker, scope, form, parts)?;
+    push_state(maker, scope, lines, form, parts)?;
+    call_state(maker, scope, lines, form, parts)?;
+    if returns(form) {
+        let back = give_made(maker, lines)?;
+        parts.push(back)?;
+        Ok(())
+    } else {
+        Ok(())
     }
+}
+
+// The slots that a transition takes out.
+fn take_rows<'p>(
+    maker: &Maker<'p>,
+    scope: &mut Scope,
+    form: Form<'p>,
+    parts: &mut Vec<Expr>,
+) -> Result<(), AllocError>
+    ensures { OnOk result (lines_of scope.new parts.new.items ≡ take_rows (listed form.entry) (lines_of scope.old parts.old.items)) }
+{
+    for line in form.parts() {
+        take_row(maker, scope, line, parts)?;
+    }
+    Ok(())
+}
+
+fn take_row<'p>(
+    maker: &Maker<'p>,
+    scope: &mut Scope,
+    line: Form<'p>,
+    parts: &mut Vec<Expr>,
+) -> Result<(), AllocError>
+    ensures { OnOk result (lines_of scope.new parts.new.items ≡ take_row (lines_of scope.old parts.old.items) (listed line.entry)) }
+{
+    if is_a(Part::TakeLine, line) {
+        take_line(maker, scope, line, parts)
+    } else {
+        Ok(())
+    }
+}
+
+// `~states.push(n);`.
+fn push_state<'p>(
+    maker: &Maker<'p>,
+    scope: &Scope,
+    lines: Lines,
+    form: Form<'p>,
+    parts: &mut Vec<Expr>,
+) -> Result<(), AllocError>
+    ensures { OnOk result (lines_of scope.now parts.new.items ≡ push_state lines (listed form.entry) (lines_of scope.now parts.old.items)) }
+{
     let target = maker.state(lines.kind, wide_number(form.hole(0)));
-    parts.push(maker.pair(Join::Push, maker.name(scope, "~states"), target)?)?;
+    let pushed = maker.pair(Join::Push, maker.name(scope, "~states"), target)?;
+    parts.push(pushed)?;
+    Ok(())
+}
+
+// `~result = ~stateN(..)?; ~states.pop();`.
+fn call_state<'p>(
+    maker: &Maker<'p>,
+    scope: &mut Scope,
+    lines: Lines,
+    form: Form<'p>,
+    parts: &mut Vec<Expr>,
+) -> Result<(), AllocError>
+    ensures { OnOk result (lines_of scope.new parts.new.items ≡ call_state (making maker.now) lines (listed form.entry) (lines_of scope.old parts.old.items)) }
+{
+    let call = state_call(maker, scope, form)?;
+    let answer = maker.tried(scope, call)?;
+    let written = maker.write(lines.made, answer)?;
+    parts.push(written)?;
+    let shorter = maker.apply(Op::Shorten, maker.name(scope, "~states"))?;
+    parts.push(shorter)?;
+    Ok(())
+}
+
+// The call of a state's function.
+fn state_call<'p>(maker: &Maker<'p>, scope: &Scope, form: Form<'p>) -> Result<Expr, AllocError>
+    ensures { IfOk result (λ v. v ≡ state_call (making maker.now) (listed form.entry) scope.now) }
+{
     let mut args = Vec::new(maker.alloc);
     maker.arguments(scope, form.hole(1), &mut args)?;
     args.push(maker.name(scope, "~tokens"))?;
     args.push(maker.name(scope, "~states"))?;
     maker.arguments(scope, form.hole(2), &mut args)?;
-    let call = maker.call("state", form.hole(0), args)?;
-    let answer = maker.tried(scope, call)?;
-    parts.push(maker.write(lines.made, answer)?)?;
-    parts.push(maker.apply(Op::Shorten, maker.name(scope, "~states"))?)?;
-    if returns {
-        parts.push(give_made(maker, lines)?)?;
+    maker.call("state", form.hole(0), args)
+}
+
+// The transition below a form, if it is there.
+fn found_transition<'p>(
+    maker: &Maker<'p>,
+    scope: &mut Scope,
+    lines: Lines,
+    form: Option<Form<'p>>,
+    parts: &mut Vec<Expr>,
+) -> Result<(), AllocError>
+    ensures { OnOk result (lines_of scope.new parts.new.items ≡ found_transition (making maker.now) lines (option_map listed form.entry) (lines_of scope.old parts.old.items)) }
+{
+    match form {
+        None => {
+            parts.push(Expr::stuck())?;
+            Ok(())
+        }
+        Some(form) => transition(maker, scope, lines, form, parts),
     }
-    Ok(())
 }
 
 fn reduce_arm<'p>(
@@ -294,46 +428,129 @@ fn end_case(arms: &mut Arms) -> Result<(), AllocError> {
     Ok(())
 }
 
+/// What was gathered of a loop over gotos: the checks of empty slots, the arms, and what is done with another
+/// symbol.
+#[derive(Drop)]
+pub struct GotoLines {
+    pub checks: Vec<Expr>,
+    pub arms: Arms,
+    pub other: Expr,
+}
+
 // Goes on with what a state function gave, turn by turn.
 fn goto_loop<'p>(
     maker: &mut Maker<'p>,
     scope: &mut Scope,
     lines: Lines,
     form: Form<'p>,
-) -> Result<Expr, AllocError> {
+) -> Result<Expr, AllocError>
+    ensures { IfOk result (λ v. done_of v scope.new (making maker.new) ≡ goto_loop lines (making maker.old) scope.old (listed form.entry)) }
+{
     let mark = scope.open();
-    let mut parts = Vec::new(maker.alloc);
-    let (token, unpacked) = maker.unpack(scope, 2, Expr::read(lines.made))?;
+    let token = scope.fresh_many(2);
     let made = token.saturating_add(1);
-    let mut cases = Vec::new(maker.alloc);
-    let mut bodies = Vec::new(maker.alloc);
-    let mut other = Expr::stuck();
-    for line in form.parts() {
-        match line.part() {
-            Part::EmptyCheck => parts.push(empty_check(maker, scope, lines, line)?)?,
-            Part::GotoArm => {
-                scope.name(maker.alloc, "~lookahead", token)?;
-                let variant = maker.variant(line.hole(0))?;
-                cases.push(here(Test::Is(variant), bodies.len()))?;
-                bodies.push(goto_arm(maker, scope, lines, line, made)?)?;
-            }
-            Part::GotoOther => {
-                let answer = maker.pair(
-                    Join::Make(Tag::Tuple),
-                    Expr::take(token),
-                    Expr::take(made),
-                )?;
-                let good = maker.apply(Op::Wrap(Tag::Success), answer)?;
-                other = maker.give_back(good)?;
-            }
-            _ => {}
-        }
-    }
-    parts.push(unpacked)?;
-    bodies.push(other)?;
-    parts.push(Expr::select(maker.alloc, Expr::take(made), made, cases, bodies)?)?;
+    let mut gotos = GotoLines {
+        checks: Vec::new(maker.alloc),
+        arms: Arms::new(maker.alloc),
+        other: Expr::stuck(),
+    };
+    going_rows(maker, scope, lines, (token, made), form, &mut gotos)?;
     scope.close(mark);
-    Expr::repeat(maker.alloc, Expr::block(parts))
+    let turn = goto_turn(maker, lines, token, made, gotos)?;
+    Expr::repeat(maker.alloc, turn)
+}
+
+fn going_rows<'p>(
+    maker: &mut Maker<'p>,
+    scope: &mut Scope,
+    lines: Lines,
+    slots: (usize, usize),
+    form: Form<'p>,
+    gotos: &mut GotoLines,
+) -> Result<(), AllocError>
+    ensures { OnOk result (going_of scope.new gotos.new (making maker.new) ≡ going_rows lines slots.0 slots.1 (listed form.entry) (going_of scope.old gotos.old (making maker.old))) }
+{
+    for line in form.parts() {
+        going_row(maker, scope, lines, slots, line, gotos)?;
+    }
+    Ok(())
+}
+
+fn going_row<'p>(
+    maker: &mut Maker<'p>,
+    scope: &mut Scope,
+    lines: Lines,
+    slots: (usize, usize),
+    line: Form<'p>,
+    gotos: &mut GotoLines,
+) -> Result<(), AllocError>
+    ensures { OnOk result (going_of scope.new gotos.new (making maker.new) ≡ going_row lines slots.0 slots.1 (going_of scope.old gotos.old (making maker.old)) (listed line.entry)) }
+{
+    let (token, made) = slots;
+    if is_a(Part::EmptyCheck, line) {
+        let check = empty_check(maker, scope, lines, line)?;
+        gotos.checks.push(check)?;
+        Ok(())
+    } else if is_a(Part::GotoArm, line) {
+        scope.name(maker.alloc, "~lookahead", token)?;
+        going_arm(maker, scope, lines, made, line, &mut gotos.arms)
+    } else if is_a(Part::GotoOther, line) {
+        gotos.other = goto_other(maker, token, made)?;
+        Ok(())
+    } else {
+        Ok(())
+    }
+}
+
+// The arm of a nonterminal.
+fn going_arm<'p>(
+    maker: &mut Maker<'p>,
+    scope: &mut Scope,
+    lines: Lines,
+    made: usize,
+    line: Form<'p>,
+    arms: &mut Arms,
+) -> Result<(), AllocError>
+    ensures names { OnOk result (scope.new ≡ goto_arm_names (with_variant (hole_of 0 (listed line.entry)) (making maker.old)) lines made scope.old (listed line.entry)) }
+    ensures arms { OnOk result (gathered arms.new ≡ with_body (goto_arm (with_variant (hole_of 0 (listed line.entry)) (making maker.old)) lines made scope.old (listed line.entry)) (with_case (Test.Is (variant_tag (hole_of 0 (listed line.entry)) (making maker.old))) (gathered arms.old))) }
+    ensures made { OnOk result (making maker.new ≡ with_variant (hole_of 0 (listed line.entry)) (making maker.old)) }
+{
+    let variant = maker.variant(line.hole(0))?;
+    arms.case(Test::Is(variant))?;
+    let body = goto_arm(maker, scope, lines, line, made)?;
+    arms.body(body)
+}
+
+// `return Ok((~lookahead, ~nt));`.
+fn goto_other<'p>(maker: &Maker<'p>, token: usize, made: usize) -> Result<Expr, AllocError>
+    ensures { IfOk result (λ v. v ≡ goto_other token made) }
+{
+    let answer = maker.pair(Join::Make(Tag::Tuple), Expr::take(token), Expr::take(made))?;
+    let good = maker.apply(Op::Wrap(Tag::Success), answer)?;
+    maker.give_back(good)
+}
+
+// One turn: the checks, what a state function gave in two parts, and the arm of its symbol.
+fn goto_turn<'p>(
+    maker: &Maker<'p>,
+    lines: Lines,
+    token: usize,
+    made: usize,
+    gotos: GotoLines,
+) -> Result<Expr, AllocError>
+    ensures { IfOk result (λ v. (names : Names) (m : Making) → v ≡ goto_turn lines token made (going_of names gotos m)) }
+{
+    let GotoLines {
+        checks,
+        arms,
+        other,
+    } = gotos;
+    let mut parts = checks;
+    let unpacked = maker.apply(Op::Parts(token, 2), Expr::read(lines.made))?;
+    parts.push(unpacked)?;
+    let choice = choice_at(maker, Expr::take(made), made, other, arms)?;
+    parts.push(choice)?;
+    Ok(Expr::block(parts))
 }
 
 // `if ~symj.is_none() { return Ok(~result); }`.
@@ -342,7 +559,9 @@ fn empty_check<'p>(
     scope: &Scope,
     lines: Lines,
     line: Form<'p>,
-) -> Result<Expr, AllocError> {
+) -> Result<Expr, AllocError>
+    ensures { IfOk result (λ v. v ≡ empty_check lines scope.now (listed line.entry)) }
+{
     let name = numbered(maker.alloc, "~sym", line.hole(0))?;
     let test = maker.apply(Op::IsEmpty, maker.name(scope, name.as_str()))?;
     let back = give_made(maker, lines)?;
@@ -354,23 +573,22 @@ fn empty_check<'p>(
     )
 }
 
+// Goes on with a symbol that was made.
 fn goto_arm<'p>(
-    maker: &mut Maker<'p>,
+    maker: &Maker<'p>,
     scope: &mut Scope,
     lines: Lines,
     line: Form<'p>,
     made: usize,
-) -> Result<Expr, AllocError> {
+) -> Result<Expr, AllocError>
+    ensures value { IfOk result (λ v. v ≡ goto_arm (making maker.now) lines made scope.old (listed line.entry)) }
+    ensures names { OnOk result (scope.new ≡ goto_arm_names (making maker.now) lines made scope.old (listed line.entry)) }
+{
     let mark = scope.open();
     let mut parts = Vec::new(maker.alloc);
-    let name: Text = numbered(maker.alloc, "~sym", line.hole(1))?;
-    let symbol = scope.bind(maker.alloc, name.as_str())?;
     let inside = maker.apply(Op::Part(0), Expr::read(made))?;
-    parts.push(maker.write(symbol, inside)?)?;
-    match first(line) {
-        None => parts.push(Expr::stuck())?,
-        Some(form) => transition(maker, scope, lines, form, &mut parts)?,
-    }
+    push_let(maker, scope, "~sym", line.hole(1), inside, &mut parts)?;
+    found_transition(maker, scope, lines, first(line), &mut parts)?;
     scope.close(mark);
     Ok(Expr::block(parts))
 }

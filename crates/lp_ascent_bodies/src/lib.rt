@@ -3,3 +3,4 @@
 
 pub mod ascent;
 pub mod ascent_reduce;
+pub mod ascent_trial;
