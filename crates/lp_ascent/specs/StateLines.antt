@@ -21,19 +21,19 @@ use Rattle.lp_ascent.specs.ShiftLines.{shift_lines}
 use Rattle.lp_ascent.specs.Slots.{Layout, count_of, has_lookahead, is_cell, layout_at, optional_of}
 
 -- the further type parameter, and what the function answers
-abbrev pub tokens_generic : Grammar → List ℕ
+unfoldable pub tokens_generic : Grammar → List ℕ
 tokens_generic g =
     g.prefix ++ (codes "TOKENS: Iterator<Item=Result<" ++ (triple_text g ++ (codes "," ++ (parse_error_text g ++ codes ">>"))))
 
-abbrev pub state_answer : Grammar → List ℕ
+unfoldable pub state_answer : Grammar → List ℕ
 state_answer g =
     codes "Result<(Option<" ++ (triple_text g ++ (codes ">, " ++ (g.prefix ++ (codes "Nonterminal<" ++ (answer_parameters_text g ++ (codes ">), " ++ (parse_error_text g ++ codes ">")))))))
 
 -- the parameters: tokens, the stack of states, the lookahead, the slots
-abbrev pub tokens_parameter : Grammar → List ℕ
+unfoldable pub tokens_parameter : Grammar → List ℕ
 tokens_parameter g = g.prefix ++ (codes "tokens: &mut " ++ (g.prefix ++ codes "TOKENS"))
 
-abbrev pub lookahead_parameter : Grammar → List ℕ
+unfoldable pub lookahead_parameter : Grammar → List ℕ
 lookahead_parameter g = g.prefix ++ (codes "lookahead: Option<" ++ (triple_text g ++ codes ">"))
 
 abbrev pub lookahead_if : Grammar → Layout → List (List ℕ)

@@ -1,7 +1,6 @@
 //! The header of a state's function.
 
 ghost use Rattle.std.specs.Prelude.{◌≡◌, ◌++◌, ◌∷◌, [], IfOk, OnOk, if◌then◌else◌};
-ghost use Rattle.lp_table.specs.ReductionLines.{stack_parameter};
 ghost use Rattle.lp_tree.specs.ProgramTree.{items};
 ghost use Rattle.lp_ascent.specs.Slots.{layout_of};
 ghost use Rattle.lp_ascent.specs.StateLines.{lookahead_if, lookahead_parameter, slot_parameter, slot_parameters, state_answer, state_header, state_parameters, tokens_generic, tokens_parameter};
@@ -13,6 +12,7 @@ use lp_repr::repr::Symbol;
 use lp_table::headers::grammar_header;
 use lp_table::machine::phantom_parameter;
 use lp_table::pieces::made;
+use lp_table::reductions::stack_parameter;
 use lp_table::shared::{Shared, symbol_type};
 use lp_tree::{Node, Piece};
 use std::alloc::{AllocError, Global};
@@ -35,6 +35,7 @@ pub fn state_header<'t>(
 }
 
 /// The further type parameter.
+#[tactic(auto, unfolding(crate::specs::StateLines::tokens_generic))]
 fn tokens_generic<'t>(alloc: Global, shared: &Shared<'t>) -> Result<Piece<'t>, AllocError>
     ensures { IfOk result (λ p. p ≡ tokens_generic shared.now.grammar.now) }
 {
@@ -45,6 +46,7 @@ fn tokens_generic<'t>(alloc: Global, shared: &Shared<'t>) -> Result<Piece<'t>, A
 }
 
 /// What the function answers.
+#[tactic(auto, unfolding(crate::specs::StateLines::state_answer))]
 fn state_answer<'t>(alloc: Global, states: &States<'t>) -> Result<Piece<'t>, AllocError>
     ensures { IfOk result (λ p. p ≡ state_answer states.now.shared.grammar.now) }
 {
@@ -81,6 +83,7 @@ fn state_parameters<'t>(
 }
 
 /// The tokens as a parameter.
+#[tactic(auto, unfolding(crate::specs::StateLines::tokens_parameter))]
 fn tokens_parameter<'t>(alloc: Global, shared: &Shared<'t>) -> Result<Piece<'t>, AllocError>
     ensures { IfOk result (λ p. p ≡ tokens_parameter shared.now.grammar.now) }
 {
@@ -88,16 +91,8 @@ fn tokens_parameter<'t>(alloc: Global, shared: &Shared<'t>) -> Result<Piece<'t>,
     Ok(made(format!(in alloc; "{prefix}tokens: &mut {prefix}TOKENS")?))
 }
 
-/// The stack of states as a parameter.
-fn stack_parameter<'t>(alloc: Global, shared: &Shared<'t>) -> Result<Piece<'t>, AllocError>
-    ensures { IfOk result (λ p. p ≡ stack_parameter shared.now.grammar.now shared.now.states.now) }
-{
-    let prefix = shared.grammar.prefix.as_str();
-    let state_type = shared.state_type;
-    Ok(made(format!(in alloc; "{prefix}states: &mut alloc::vec::Vec<{state_type}>")?))
-}
-
 /// The lookahead as a parameter.
+#[tactic(auto, unfolding(crate::specs::StateLines::lookahead_parameter))]
 fn lookahead_parameter<'t>(alloc: Global, shared: &Shared<'t>) -> Result<Piece<'t>, AllocError>
     ensures { IfOk result (λ p. p ≡ lookahead_parameter shared.now.grammar.now) }
 {

@@ -60,7 +60,7 @@ unfoldable pub parse_header : Grammar → Start → List Item
 parse_header g s = header_lines (name.Parse s.visibility) (parse_generics g) (parse_parameters g) (parse_answer g s) (clauses_of g)
 
 -- where the tokens come from
-abbrev pub source_lines : Grammar → List Item
+unfoldable pub source_lines : Grammar → List Item
 source_lines g = leaf (if is_interned g then part.TokenSourceInterned else part.TokenSourcePlain) []
 
 -- a parser by tables, and a module of table-driven code, of what is below them

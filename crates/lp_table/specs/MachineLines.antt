@@ -91,15 +91,21 @@ simulated_from g s n (p ∷ ps) = simulated_line g s n p ∷ simulated_from g s 
 unfoldable pub index_parameter : Grammar → List Lr1State → List ℕ
 index_parameter g states = g.prefix ++ (codes "reduce_index: " ++ state_text g states)
 
+-- what a simulation answers
 unfoldable pub simulated_type : List ℕ → List ℕ
 simulated_type machine = codes "SimulatedReduce<" ++ (machine ++ codes ">")
 
 unfoldable pub machine_type : List ℕ → List ℕ → List ℕ
 machine_type prefix generics = prefix ++ (codes "StateMachine<" ++ (generics ++ codes ">"))
 
+unfoldable pub machine_name : Grammar → List ℕ
+machine_name g = machine_type g.prefix (machine_generics_text g)
+
+unfoldable pub simulated_over : List ℕ → List ℕ → List ℕ
+simulated_over prefix machine = prefix ++ (codes "state_machine::" ++ simulated_type machine)
+
 unfoldable pub simulated_answer : Grammar → List ℕ
-simulated_answer g =
-    g.prefix ++ (codes "state_machine::" ++ simulated_type (machine_type g.prefix (machine_generics_text g)))
+simulated_answer g = simulated_over g.prefix (machine_name g)
 
 -- what a reduction would do
 unfoldable pub simulation : Grammar → List Lr1State → Start → List Item

@@ -20,7 +20,7 @@ use Rattle.lp_parts.specs.Variants.{nonterminal_variants, terminal_variants}
 use Rattle.lp_table.specs.Headers.{grammar_header}
 use Rattle.lp_table.specs.MachineLines.{phantom_parameter, phantom_text}
 use Rattle.lp_table.specs.Pieces.{borrowed_option, spanned_symbol_text, unless_empty, variant_text, variant_types_shown, vec_of}
-use Rattle.lp_table.specs.Starts.{Start, is_fallible, is_start, state_text}
+use Rattle.lp_table.specs.Starts.{Start, is_fallible, is_start, location_name, state_name, state_text}
 
 -- the variant of a symbol, the first one where it has no number
 abbrev pub variant_at : Grammar → Option SymbolNumber → ℕ
@@ -86,11 +86,14 @@ arms_from g s n (p ∷ ps) = reduction_arm g s n p ++ arms_from g s (n + 1) ps
 unfoldable pub action_parameter : Grammar → List Lr1State → List ℕ
 action_parameter g states = g.prefix ++ (codes "action: " ++ state_text g states)
 
+unfoldable pub state_list : List ℕ → List ℕ → List ℕ
+state_list prefix ty = prefix ++ (codes "states: &mut " ++ vec_of ty)
+
 unfoldable pub stack_parameter : Grammar → List Lr1State → List ℕ
-stack_parameter g states = g.prefix ++ (codes "states: &mut " ++ vec_of (state_text g states))
+stack_parameter g states = state_list g.prefix (state_name g states)
 
 unfoldable pub lookahead_parameter : Grammar → List ℕ
-lookahead_parameter g = g.prefix ++ (codes "lookahead_start: " ++ borrowed_option (location_text g))
+lookahead_parameter g = g.prefix ++ (codes "lookahead_start: " ++ borrowed_option (location_name g))
 
 unfoldable pub symbols_parameter : Grammar → List ℕ
 symbols_parameter g = g.prefix ++ (codes "symbols: &mut " ++ vec_of (spanned_symbol_text g))
@@ -106,10 +109,14 @@ reduce_header g states s =
 unfoldable pub reduce_function : Grammar → List Lr1State → Start → List Item
 reduce_function g states s = over part.Reduce [] (reduce_header g states s ++ arms_from g s 0 (productions_of g))
 
+-- where a reduction starts and ends
+unfoldable pub places_type : List ℕ
+places_type = codes "(usize, usize)"
+
 -- the function of a production, if it has one
 unfoldable pub own_header : Grammar → ℕ → List Item
 own_header g n =
-    grammar_header g (name.ReduceProduction n) [] (lookahead_parameter g ∷ symbols_parameter g ∷ phantom_parameter g ∷ []) (codes "(usize, usize)")
+    grammar_header g (name.ReduceProduction n) [] (lookahead_parameter g ∷ symbols_parameter g ∷ phantom_parameter g ∷ []) places_type
 
 abbrev pub own_function : Grammar → Start → ℕ → Production → List Item
 own_function g s n p = over part.ReduceFn [] (own_header g n ++ reduction_body g s p)

@@ -16,6 +16,7 @@ use Rattle.lp_repr.specs.declared.repr.Symbol.{Symbol}
 use Rattle.lp_repr.specs.declared.repr.Symbol.TheVariants.{Nonterminal, Terminal}
 use Rattle.lp_repr.specs.declared.repr.TypeRepr.{TypeRepr}
 use Rattle.lp_parts.specs.StateType.{state_type_of}
+use Rattle.lp_parts.specs.Texts.{location_text}
 use Rattle.lp_parts.specs.Variants.{nonterminal_type, terminal_type}
 use Rattle.lp_table.specs.declared.shared.StartTexts.{StartTexts}
 
@@ -69,3 +70,10 @@ symbol_type g (Terminal terminal) = terminal_type g terminal
 -- the type of states
 abbrev pub state_text : Grammar → List Lr1State → List ℕ
 state_text g states = state_type_of (length states) (length (productions_of g))
+
+-- the types of states and of locations, as names
+unfoldable pub state_name : Grammar → List Lr1State → List ℕ
+state_name g states = state_text g states
+
+unfoldable pub location_name : Grammar → List ℕ
+location_name g = location_text g

@@ -54,10 +54,13 @@ integer_rows g n (t ∷ ts) = integer_row n (get terminal_cmp g.conversions t) +
 abbrev pub token_reference : Grammar → List ℕ
 token_reference g = g.prefix ++ (codes "token: &" ++ token_text g)
 
+unfoldable pub number_type : List ℕ
+number_type = codes "Option<usize>"
+
 unfoldable pub token_numbers : Grammar → List Item
 token_numbers g =
     over part.TokenToInteger []
-    (token_header g name.TokenToInteger (token_reference g ∷ phantom_parameter g ∷ []) (codes "Option<usize>") ++ integer_rows g 0 (terminals_of g))
+    (token_header g name.TokenToInteger (token_reference g ∷ phantom_parameter g ∷ []) number_type ++ integer_rows g 0 (terminals_of g))
 
 -- a terminal with a pattern: its number, its variant and the pattern
 abbrev pub Known : Type 0

@@ -2,7 +2,7 @@
 
 ghost use Rattle.std.specs.Prelude.{◌≡◌, ◌++◌, codes, is_some, nat_eq, string_bytes, IfOk, OnOk};
 ghost use Rattle.std.specs.List.{flat_map, starts_with};
-ghost use Rattle.lp_table.specs.FrameLines.{inner_use, inner_uses, module_parts, parse_answer, parse_generics, parse_header, parse_parameters, table_parser, token_bound, token_iterator, token_use_lines, tokens_bound, tokens_parameter, use_lines};
+ghost use Rattle.lp_table.specs.FrameLines.{inner_use, inner_uses, module_parts, parse_answer, parse_generics, parse_header, parse_parameters, source_lines, table_parser, token_bound, token_iterator, token_use_lines, tokens_bound, tokens_parameter, use_lines};
 ghost use Rattle.lp_table.specs.Starts.{start_of};
 ghost use Rattle.lp_tree.specs.ProgramTree.{items};
 
@@ -137,12 +137,31 @@ pub fn table_parser<'t>(
     ensures { IfOk result (λ n. items n ≡ table_parser shared.now.grammar.now (start_of shared.now.start) (items body.entry)) }
 {
     let interned = is_interned(shared.grammar);
-    let head = parse_header(alloc, shared)?;
-    let source = token_source(alloc, interned)?;
     let visibility = copied(alloc, shared.start.visibility.as_str())?;
     let name = lent_name(shared.start.public_name);
-    let below = vec![in alloc; head, source, body]?;
+    let below = parser_below(alloc, shared, body)?;
     parser_of(alloc, visibility, name, interned, below)
+}
+
+/// What is below a parser: the header of `parse`, where the tokens come from, and the body.
+fn parser_below<'t>(
+    alloc: Global,
+    shared: &Shared<'t>,
+    body: Node<'t>,
+) -> Result<Vec<Node<'t>>, AllocError>
+    ensures { IfOk result (λ v. flat_map items v.items ≡ (parse_header shared.now.grammar.now (start_of shared.now.start) ++ source_lines shared.now.grammar.now) ++ items body.entry) }
+{
+    let head = parse_header(alloc, shared)?;
+    let source = source_of(alloc, shared.grammar)?;
+    Ok(vec![in alloc; head, source, body]?)
+}
+
+/// Where the tokens of a grammar come from.
+#[tactic(auto, unfolding(crate::specs::FrameLines::source_lines))]
+fn source_of<'t>(alloc: Global, grammar: &Grammar) -> Result<Node<'t>, AllocError>
+    ensures { IfOk result (λ n. items n ≡ source_lines grammar.now) }
+{
+    token_source(alloc, is_interned(grammar))
 }
 
 /// The header of `parse`.

@@ -7,7 +7,7 @@ ghost use Rattle.lp_build.specs.Tables.{variant_row};
 ghost use Rattle.lp_repr.specs.Shown.{parameter_text};
 ghost use Rattle.lp_repr.specs.ShownTypes.{clause_text, type_text};
 ghost use Rattle.lp_table.specs.Headers.{header_lines};
-ghost use Rattle.lp_table.specs.MachineLines.{acceptance, definition, drive_call, error_state_parameter, expected_list, implementation, index_parameter, integer_parameter, machine_type, phantom_parameter, recovery_variant, reduced_of, simulated_answer, simulated_from, simulated_line, simulated_type, simulation, states_parameter, strings_type, symbol_values, variant_line, variant_rows};
+ghost use Rattle.lp_table.specs.MachineLines.{acceptance, definition, drive_call, error_state_parameter, expected_list, implementation, index_parameter, integer_parameter, machine_name, machine_type, phantom_parameter, recovery_variant, reduced_of, simulated_answer, simulated_from, simulated_line, simulated_over, simulated_type, simulation, states_parameter, strings_type, symbol_values, variant_line, variant_rows};
 ghost use Rattle.lp_table.specs.Machines.{IsMachineOf, field_line};
 ghost use Rattle.lp_table.specs.Starts.{start_of};
 ghost use Rattle.lp_tree.specs.ProgramTree.{items};
@@ -290,7 +290,6 @@ fn index_parameter<'t>(alloc: Global, shared: &Shared<'t>) -> Result<Piece<'t>, 
 }
 
 /// What a simulation answers.
-#[tactic(auto, unfolding(crate::specs::MachineLines::simulated_answer))]
 fn simulated_answer<'t>(
     alloc: Global,
     shared: &Shared<'t>,
@@ -300,9 +299,28 @@ fn simulated_answer<'t>(
     ensures { IfOk result (λ p. p ≡ simulated_answer shared.now.grammar.now) }
 {
     let prefix = shared.grammar.prefix.as_str();
-    let machine = machine_type(alloc, prefix, machine.texts.parameters.as_str())?;
-    let simulated = simulated_type(alloc, machine.as_str())?;
+    let name = machine_name(alloc, shared, machine)?;
+    let text = name.as_str();
+    simulated_over(alloc, prefix, text)
+}
+
+/// What a simulation of a struct answers, with the module that has it.
+#[tactic(auto, unfolding(crate::specs::MachineLines::simulated_over))]
+fn simulated_over<'t>(alloc: Global, prefix: &str, machine: &str) -> Result<Piece<'t>, AllocError>
+    ensures { IfOk result (λ p. p ≡ simulated_over prefix.now machine.now) }
+{
+    let simulated = simulated_type(alloc, machine)?;
     Ok(made(format!(in alloc; "{prefix}state_machine::{simulated}")?))
+}
+
+/// The struct over its type parameters.
+fn machine_name(alloc: Global, shared: &Shared<'_>, machine: &Machine) -> Result<String, AllocError>
+    requires { IsMachineOf shared.now.grammar.now machine.now }
+    ensures { IfOk result (λ s. string_bytes s ≡ machine_name shared.now.grammar.now) }
+{
+    let prefix = shared.grammar.prefix.as_str();
+    let generics = machine.texts.parameters.as_str();
+    machine_type(alloc, prefix, generics)
 }
 
 /// The struct over these type parameters.

@@ -5,7 +5,7 @@ ghost use Rattle.std.specs.List.{flat_map, range_with_len};
 ghost use Rattle.std.specs.Map.Iter.{deref};
 ghost use Rattle.lp_repr.specs.Shown.{parameter_text};
 ghost use Rattle.lp_repr.specs.ShownTypes.{type_text};
-ghost use Rattle.lp_table.specs.ReductionLines.{action_arguments, action_parameter, arms_from, functions_from, if_called, is_called, left_number, lookahead_parameter, own_function, own_header, pop_function, pop_functions, pops_from, produced_of, reduce_answer, reduce_function, reduce_functions, reduce_header, reduction_arm, reduction_body, stack_parameter, symbol_arguments, symbol_name, symbol_variant, symbols_parameter, variant_at};
+ghost use Rattle.lp_table.specs.ReductionLines.{action_arguments, action_parameter, arms_from, functions_from, if_called, is_called, left_number, lookahead_parameter, own_function, own_header, places_type, pop_function, pop_functions, pops_from, produced_of, reduce_answer, reduce_function, reduce_functions, reduce_header, reduction_arm, reduction_body, stack_parameter, state_list, symbol_arguments, symbol_name, symbol_variant, symbols_parameter, variant_at};
 ghost use Rattle.lp_table.specs.Starts.{start_of};
 ghost use Rattle.lp_tree.specs.ProgramTree.{items};
 
@@ -104,12 +104,20 @@ fn action_parameter<'t>(alloc: Global, shared: &Shared<'t>) -> Result<Piece<'t>,
 }
 
 /// The stack of states as a parameter.
-#[tactic(auto, unfolding(crate::specs::ReductionLines::stack_parameter))]
-fn stack_parameter<'t>(alloc: Global, shared: &Shared<'t>) -> Result<Piece<'t>, AllocError>
+pub fn stack_parameter<'t>(alloc: Global, shared: &Shared<'t>) -> Result<Piece<'t>, AllocError>
     ensures { IfOk result (λ p. p ≡ stack_parameter shared.now.grammar.now shared.now.states.now) }
 {
     let prefix = shared.grammar.prefix.as_str();
-    let states = vec_of(alloc, shared.state_type)?;
+    let ty = shared.state_name();
+    state_list(alloc, prefix, ty)
+}
+
+/// A list of states of this type as a parameter.
+#[tactic(auto, unfolding(crate::specs::ReductionLines::state_list))]
+fn state_list<'t>(alloc: Global, prefix: &str, ty: &str) -> Result<Piece<'t>, AllocError>
+    ensures { IfOk result (λ p. p ≡ state_list prefix.now ty.now) }
+{
+    let states = vec_of(alloc, ty)?;
     Ok(made(format!(in alloc; "{prefix}states: &mut {states}")?))
 }
 
@@ -119,7 +127,7 @@ fn lookahead_parameter<'t>(alloc: Global, shared: &Shared<'t>) -> Result<Piece<'
     ensures { IfOk result (λ p. p ≡ lookahead_parameter shared.now.grammar.now) }
 {
     let prefix = shared.grammar.prefix.as_str();
-    let location = borrowed_option(alloc, shared.types.location.as_str())?;
+    let location = borrowed_option(alloc, shared.location_name())?;
     Ok(made(format!(in alloc; "{prefix}lookahead_start: {location}")?))
 }
 
@@ -211,8 +219,16 @@ fn own_header<'t>(alloc: Global, shared: &Shared<'t>, number: usize) -> Result<N
     let parameters = vec![in alloc; lookahead, symbols, phantom]?;
     let name = FunctionName::ReduceProduction(number as u64);
     let generics = Vec::new(alloc);
-    let result = lent("(usize, usize)");
+    let result = places_type();
     grammar_header(alloc, shared.grammar, name, generics, parameters, result)
+}
+
+/// Where a reduction starts and ends.
+#[tactic(auto, unfolding(crate::specs::ReductionLines::places_type))]
+fn places_type<'t>() -> Piece<'t>
+    ensures { result ≡ places_type }
+{
+    lent("(usize, usize)")
 }
 
 /// The lines of a reduction.

@@ -14,7 +14,7 @@ ghost use Rattle.lp_repr.specs.ShownTypes.{type_text};
 ghost use Rattle.lp_repr.specs.declared.repr.NonterminalString.{NonterminalString};
 ghost use Rattle.lp_repr.specs.declared.repr.TerminalString.{TerminalString};
 ghost use Rattle.lp_table.specs.Pieces.{spanned_symbol_text, variant_types_shown};
-ghost use Rattle.lp_table.specs.Starts.{is_fallible, is_start, start_for, start_of, symbol_type, visibility_or_none};
+ghost use Rattle.lp_table.specs.Starts.{is_fallible, is_start, location_name, state_name, start_for, start_of, symbol_type, visibility_or_none};
 
 use lp_parts::number_type::state_type;
 use lp_parts::texts::{ParameterTexts, SymbolTexts, TypeTexts};
@@ -172,6 +172,22 @@ impl<'t> Shared<'t> {
             productions,
             variants,
         })
+    }
+
+    /// The type of states.
+    #[tactic(auto, unfolding(crate::specs::Starts::state_name))]
+    pub fn state_name(&self) -> &str
+        ensures { result.now ≡ state_name self.now.grammar.now self.now.states.now }
+    {
+        self.state_type
+    }
+
+    /// The type of locations.
+    #[tactic(auto, unfolding(crate::specs::Starts::location_name))]
+    pub fn location_name(&self) -> &str
+        ensures { result.now ≡ location_name self.now.grammar.now }
+    {
+        self.types.location.as_str()
     }
 
     /// The number of a nonterminal, if it is declared.

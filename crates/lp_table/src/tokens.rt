@@ -5,7 +5,7 @@ ghost use Rattle.std.specs.List.{flat_map, list_any};
 ghost use Rattle.lp_build.specs.Tables.{integer_row as arm_row};
 ghost use Rattle.lp_repr.specs.Shown.{pattern_text};
 ghost use Rattle.lp_table.specs.KnownTerminals.{known_as};
-ghost use Rattle.lp_table.specs.TokenLines.{capture_name, capture_names, captured_value, group_arm, group_of, group_patterns, groups_of, in_group, integer_row, integer_rows, known_from, known_one, named_pattern, number_of, pattern_of, pieces_from, same_group, symbols_header, terminal_variant, token_index, token_numbers, token_reference, token_symbols, token_value, with_group};
+ghost use Rattle.lp_table.specs.TokenLines.{capture_name, capture_names, captured_value, group_arm, group_of, group_patterns, groups_of, in_group, integer_row, integer_rows, known_from, known_one, named_pattern, number_of, number_type, pattern_of, pieces_from, same_group, symbols_header, terminal_variant, token_index, token_numbers, token_reference, token_symbols, token_value, with_group};
 ghost use Rattle.lp_tree.specs.ProgramTree.{items};
 
 use crate::headers::token_header;
@@ -63,6 +63,7 @@ fn push_piece(text: &mut String, prefix: &str, number: usize, piece: &str) -> Re
 }
 
 /// The names `~tok0`, `~tok1`, .. of so many captures, joined by `, `.
+#[tactic(auto, using(std::proofs::lemmas::Grind::common_steps, crate::proofs::Ranges::range_next))]
 pub fn capture_names(alloc: Global, prefix: &str, captures: usize) -> Result<String, AllocError>
     ensures { IfOk result (λ s. string_bytes s ≡ capture_names prefix.now captures) }
 {
@@ -90,8 +91,16 @@ pub fn token_numbers<'t>(alloc: Global, shared: &Shared<'t>) -> Result<Node<'t>,
     let reference = token_reference(alloc, shared)?;
     let parameters = vec![in alloc; reference, phantom_parameter(alloc, shared)?]?;
     let name = FunctionName::TokenToInteger;
-    let head = token_header(alloc, grammar, name, parameters, lent("Option<usize>"))?;
+    let head = token_header(alloc, grammar, name, parameters, number_type())?;
     token_to_integer(alloc, arms, vec![in alloc; head]?)
+}
+
+/// The number of a terminal, where there is one.
+#[tactic(auto, unfolding(crate::specs::TokenLines::number_type))]
+fn number_type<'t>() -> Piece<'t>
+    ensures { result ≡ number_type }
+{
+    lent("Option<usize>")
 }
 
 /// A token as a parameter.

@@ -1,11 +1,13 @@
 use Rattle.std.proofs.Common.{ℕ, List, ◌++◌, codes, ap, ◌∙◌}
 use Rattle.lp_parts.specs.Texts.{triple_text}
+use Rattle.lp_ascent.specs.StateLines.{tokens_generic}
 use Rattle.lp_ascent.proofs.headers.tokens_generic.Goals as goal
 
 abbrev generic : List ℕ → List ℕ → List ℕ → List ℕ
 generic p t e = p ++ (codes "TOKENS: Iterator<Item=Result<" ++ (t ++ (codes "," ++ (e ++ codes ">>"))))
 
 pub returns : goal.returns
+unfolding tokens_generic
 returns c =
     let shared = c.args.shared.now in
     let triple = c.as_str-triple.result.now in

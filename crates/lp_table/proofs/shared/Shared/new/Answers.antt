@@ -28,7 +28,7 @@ invariant_of-result c =
       symbol_clauses_shown = c.in_ok-symbols.ensures.clauses;
       symbol_shown = c.in_ok-symbols.ensures.symbol;
       spanned_symbol_shown = c.in_ok-symbols.ensures.spanned_symbol
-          ∙ ap (λ (l : List ℕ). spanned_symbol_of l (symbol_text grammar)) (c.as_str.ensures ∙ c.in_ok-types.ensures.location);
+          ∙ ap (λ (l : List ℕ). spanned_symbol_of l (symbol_text grammar)) (c.as_str.ensures.value ∙ c.in_ok-types.ensures.location);
       generics_shown = c.in_ok-parameters.ensures.type_parameters;
       generic_names_shown = c.in_ok-parameters.ensures.generic_names;
       arguments_shown = c.in_ok-parameters.ensures.arguments;
