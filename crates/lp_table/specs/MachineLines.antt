@@ -1,5 +1,5 @@
 -- The struct that the driver asks, what it needs for expected lists, and the values of symbols.
-use Rattle.std.specs.Prelude.{ℕ, ◌+◌, ◌-◌, List, [], ◌∷◌, ◌++◌, length, map, codes, slice_get, unwrap_or, Option, Some, None, option_map, if◌then◌else◌}
+use Rattle.std.specs.Prelude.{ℕ, ◌+◌, ◌-◌, List, [], ◌∷◌, ◌++◌, length, codes, slice_get, unwrap_or, Option, Some, None, option_map, if◌then◌else◌}
 use Rattle.lp_form.specs.declared.part.Part.TheVariants as part
 use Rattle.lp_repr.specs.Numbering.{nonterminal_number, productions_of}
 use Rattle.lp_repr.specs.declared.lr1.Lr1State.{Lr1State}
@@ -102,10 +102,10 @@ unfoldable pub machine_name : Grammar → List ℕ
 machine_name g = machine_type g.prefix (machine_generics_text g)
 
 unfoldable pub simulated_over : List ℕ → List ℕ → List ℕ
-simulated_over prefix machine = prefix ++ (codes "state_machine::" ++ simulated_type machine)
+simulated_over prefix simulated = prefix ++ (codes "state_machine::" ++ simulated)
 
 unfoldable pub simulated_answer : Grammar → List ℕ
-simulated_answer g = simulated_over g.prefix (machine_name g)
+simulated_answer g = simulated_over g.prefix (simulated_type (machine_name g))
 
 -- what a reduction would do
 unfoldable pub simulation : Grammar → List Lr1State → Start → List Item

@@ -87,10 +87,10 @@ unfoldable pub action_parameter : Grammar → List Lr1State → List ℕ
 action_parameter g states = g.prefix ++ (codes "action: " ++ state_text g states)
 
 unfoldable pub state_list : List ℕ → List ℕ → List ℕ
-state_list prefix ty = prefix ++ (codes "states: &mut " ++ vec_of ty)
+state_list prefix list = prefix ++ (codes "states: &mut " ++ list)
 
 unfoldable pub stack_parameter : Grammar → List Lr1State → List ℕ
-stack_parameter g states = state_list g.prefix (state_name g states)
+stack_parameter g states = state_list g.prefix (vec_of (state_name g states))
 
 unfoldable pub lookahead_parameter : Grammar → List ℕ
 lookahead_parameter g = g.prefix ++ (codes "lookahead_start: " ++ borrowed_option (location_name g))

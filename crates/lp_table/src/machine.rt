@@ -301,15 +301,16 @@ fn simulated_answer<'t>(
     let prefix = shared.grammar.prefix.as_str();
     let name = machine_name(alloc, shared, machine)?;
     let text = name.as_str();
-    simulated_over(alloc, prefix, text)
+    let simulated = simulated_type(alloc, text)?;
+    let path = simulated.as_str();
+    simulated_over(alloc, prefix, path)
 }
 
-/// What a simulation of a struct answers, with the module that has it.
+/// What a simulation answers, with the module that has it.
 #[tactic(auto, unfolding(crate::specs::MachineLines::simulated_over))]
-fn simulated_over<'t>(alloc: Global, prefix: &str, machine: &str) -> Result<Piece<'t>, AllocError>
-    ensures { IfOk result (λ p. p ≡ simulated_over prefix.now machine.now) }
+fn simulated_over<'t>(alloc: Global, prefix: &str, simulated: &str) -> Result<Piece<'t>, AllocError>
+    ensures { IfOk result (λ p. p ≡ simulated_over prefix.now simulated.now) }
 {
-    let simulated = simulated_type(alloc, machine)?;
     Ok(made(format!(in alloc; "{prefix}state_machine::{simulated}")?))
 }
 

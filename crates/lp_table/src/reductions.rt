@@ -109,16 +109,17 @@ pub fn stack_parameter<'t>(alloc: Global, shared: &Shared<'t>) -> Result<Piece<'
 {
     let prefix = shared.grammar.prefix.as_str();
     let ty = shared.state_name();
-    state_list(alloc, prefix, ty)
+    let states = vec_of(alloc, ty)?;
+    let list = states.as_str();
+    state_list(alloc, prefix, list)
 }
 
-/// A list of states of this type as a parameter.
+/// A list of states as a parameter.
 #[tactic(auto, unfolding(crate::specs::ReductionLines::state_list))]
-fn state_list<'t>(alloc: Global, prefix: &str, ty: &str) -> Result<Piece<'t>, AllocError>
-    ensures { IfOk result (λ p. p ≡ state_list prefix.now ty.now) }
+fn state_list<'t>(alloc: Global, prefix: &str, list: &str) -> Result<Piece<'t>, AllocError>
+    ensures { IfOk result (λ p. p ≡ state_list prefix.now list.now) }
 {
-    let states = vec_of(alloc, ty)?;
-    Ok(made(format!(in alloc; "{prefix}states: &mut {states}")?))
+    Ok(made(format!(in alloc; "{prefix}states: &mut {list}")?))
 }
 
 /// Where the lookahead starts, as a parameter.
