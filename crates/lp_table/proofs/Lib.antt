@@ -1,0 +1,5 @@
+pub mod TreeTexts
+pub mod MachineFields
+pub mod CatchAll
+pub mod Members
+pub mod Ranges

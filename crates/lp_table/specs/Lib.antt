@@ -1,0 +1,12 @@
+pub mod Pieces
+pub mod TreeTexts
+pub mod Headers
+pub mod Starts
+pub mod Machines
+pub mod MachineLines
+pub mod TableLines
+pub mod TokenLines
+pub mod KnownTerminals
+pub mod ReductionLines
+pub mod FrameLines
+pub mod BuiltTable

@@ -1,6 +1,8 @@
 //! The tree of a table-driven module, and what the back ends share.
 #![tactic(auto)]
 
+pub mod back_end;
+mod forms;
 pub mod frame;
 pub mod headers;
 pub mod machine;
@@ -11,7 +13,8 @@ pub mod table_module;
 pub mod tables;
 pub mod tokens;
 
+pub use back_end::{BackEnd, TableBackEnd};
 pub use lp_parts::{
     Comment, MachineParameters, filter_type_parameters_and_where_clauses, state_type,
 };
-pub use table_module::build_table_module;
+pub use table_module::{build_table_module, table_module_of};

@@ -1,10 +1,15 @@
 //! The module of table-driven code.
 
-ghost use Rattle.std.specs.Prelude.{◌<◌, All};
+ghost use Rattle.std.specs.Prelude.{◌≡◌, ◌++◌, ◌<◌, All, IfOk, OnOk};
 ghost use Rattle.std.specs.BTreeMap.{btree_map_len};
+ghost use Rattle.std.specs.List.{flat_map};
 ghost use Rattle.lp_parts.specs.Entries.{EntriesFit};
+ghost use Rattle.lp_table.specs.BuiltTable.{built_table, built_table_at, with_machine, with_reductions, with_tables};
+ghost use Rattle.lp_table.specs.Machines.{IsMachineOf};
+ghost use Rattle.lp_table.specs.Starts.{start_for, start_of};
+ghost use Rattle.lp_tree.specs.ProgramTree.{items};
 
-use crate::frame::{module, parser_with};
+use crate::frame::{table_module, table_parser};
 use crate::machine::{
     Machine, acceptance, definition, drive_call, expected_list, implementation, simulation,
     symbol_values,
@@ -16,7 +21,7 @@ use crate::tables::{add_action_table, end_table, goto_function, terminal_names};
 use crate::tokens::{token_numbers, token_symbols};
 use lp_build::{expected, mismatch};
 use lp_repr::Lr1State;
-use lp_repr::repr::Grammar;
+use lp_repr::repr::{Grammar, NonterminalString};
 use lp_tree::Node;
 use std::alloc::{AllocError, Global};
 
@@ -29,61 +34,93 @@ pub fn build_table_module<'t>(
 ) -> Result<Node<'t>, AllocError>
     requires start { start < btree_map_len grammar.now.start_nonterminals }
     requires entries { All EntriesFit states.now }
+    ensures { IfOk result (λ n. items n ≡ built_table_at grammar.entry.now states.entry.now start) }
 {
     let (public_name, nonterminal) = start_at(grammar, start).unwrap();
+    table_module_of(alloc, grammar, public_name, nonterminal, states)
+}
+
+/// The module of table-driven code for a start by its public name and its nonterminal.
+pub fn table_module_of<'t>(
+    alloc: Global,
+    grammar: &'t Grammar,
+    public_name: &'t NonterminalString,
+    nonterminal: &'t NonterminalString,
+    states: &'t [Lr1State],
+) -> Result<Node<'t>, AllocError>
+    requires { All EntriesFit states.now }
+    ensures { IfOk result (λ n. items n ≡ built_table grammar.entry.now states.entry.now (start_for grammar.entry.now public_name.entry.now nonterminal.entry.now)) }
+{
     let start = StartTexts::new(alloc, grammar, public_name, nonterminal)?;
     let shared = Shared::new(alloc, grammar, start, states)?;
     let machine = Machine::new(alloc, grammar)?;
-    let mut items = Vec::new(alloc);
-    items.push(symbol_values(alloc, &shared)?)?;
-    add_tables(alloc, &mut items, &shared)?;
-    add_machine(alloc, &mut items, &shared, &machine)?;
-    add_reductions(alloc, &mut items, &shared, &machine)?;
-    module(alloc, &shared, items)
+    let mut nodes = vec![in alloc; symbol_values(alloc, &shared)?]?;
+    add_tables(alloc, &mut nodes, &shared)?;
+    add_machine(alloc, &mut nodes, &shared, &machine)?;
+    add_reductions(alloc, &mut nodes, &shared, &machine)?;
+    table_module(alloc, &shared, nodes)
 }
 
+/// Puts a node behind others.
+fn put<'t>(nodes: &mut Vec<Node<'t>>, node: Node<'t>) -> Result<(), AllocError>
+    ensures { OnOk result (flat_map items nodes.new.items ≡ flat_map items nodes.old.items ++ items node.entry) }
+{
+    nodes.push(node)?;
+    Ok(())
+}
+
+/// Adds the tables.
 fn add_tables<'t>(
     alloc: Global,
-    items: &mut Vec<Node<'t>>,
+    nodes: &mut Vec<Node<'t>>,
     shared: &Shared<'t>,
 ) -> Result<(), AllocError>
     requires { All EntriesFit shared.now.states.now }
+    ensures { OnOk result (flat_map items nodes.new.items ≡ with_tables shared.now.grammar.now shared.now.states.now (flat_map items nodes.old.items)) }
 {
-    add_action_table(alloc, items, shared)?;
-    items.push(end_table(alloc, shared)?)?;
-    items.push(goto_function(alloc, shared)?)?;
-    items.push(terminal_names(alloc, &shared.grammar.terminals)?)?;
-    items.push(expected(alloc, lent_name(shared.state_type))?)?;
+    add_action_table(alloc, nodes, shared)?;
+    put(nodes, end_table(alloc, shared)?)?;
+    put(nodes, goto_function(alloc, shared)?)?;
+    put(nodes, terminal_names(alloc, &shared.grammar.terminals)?)?;
+    put(nodes, expected(alloc, lent_name(shared.state_type))?)?;
     Ok(())
 }
 
+/// Adds the struct that the driver asks.
 fn add_machine<'t>(
     alloc: Global,
-    items: &mut Vec<Node<'t>>,
+    nodes: &mut Vec<Node<'t>>,
     shared: &Shared<'t>,
     machine: &Machine,
-) -> Result<(), AllocError> {
-    items.push(expected_list(alloc, shared, machine)?)?;
-    items.push(definition(alloc, shared, machine)?)?;
-    items.push(implementation(alloc, shared, machine)?)?;
-    items.push(token_numbers(alloc, shared)?)?;
-    items.push(token_symbols(alloc, shared)?)?;
-    items.push(simulation(alloc, shared, machine)?)?;
+) -> Result<(), AllocError>
+    requires { IsMachineOf shared.now.grammar.now machine.now }
+    ensures { OnOk result (flat_map items nodes.new.items ≡ with_machine shared.now.grammar.now shared.now.states.now (start_of shared.now.start) (flat_map items nodes.old.items)) }
+{
+    put(nodes, expected_list(alloc, shared, machine)?)?;
+    put(nodes, definition(alloc, shared, machine)?)?;
+    put(nodes, implementation(alloc, shared, machine)?)?;
+    put(nodes, token_numbers(alloc, shared)?)?;
+    put(nodes, token_symbols(alloc, shared)?)?;
+    put(nodes, simulation(alloc, shared, machine)?)?;
     Ok(())
 }
 
+/// Adds the parser and the reductions.
 fn add_reductions<'t>(
     alloc: Global,
-    items: &mut Vec<Node<'t>>,
+    nodes: &mut Vec<Node<'t>>,
     shared: &Shared<'t>,
     machine: &Machine,
-) -> Result<(), AllocError> {
+) -> Result<(), AllocError>
+    requires { IsMachineOf shared.now.grammar.now machine.now }
+    ensures { OnOk result (flat_map items nodes.new.items ≡ with_reductions shared.now.grammar.now shared.now.states.now (start_of shared.now.start) (flat_map items nodes.old.items)) }
+{
     let body = drive_call(alloc, shared)?;
-    items.push(parser_with(alloc, shared, body)?)?;
-    items.push(acceptance(alloc, shared, machine)?)?;
-    items.push(reduce_function(alloc, shared)?)?;
-    items.push(mismatch(alloc)?)?;
-    add_pops(alloc, items, shared)?;
-    add_reduce_functions(alloc, items, shared)?;
+    put(nodes, table_parser(alloc, shared, body)?)?;
+    put(nodes, acceptance(alloc, shared, machine)?)?;
+    put(nodes, reduce_function(alloc, shared)?)?;
+    put(nodes, mismatch(alloc)?)?;
+    add_pops(alloc, nodes, shared)?;
+    add_reduce_functions(alloc, nodes, shared)?;
     Ok(())
 }
