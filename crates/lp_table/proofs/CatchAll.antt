@@ -1,5 +1,5 @@
 -- The catch-all is the first arm with the most ranges, so what is printed is what the arms tell.
-use Rattle.std.proofs.Common.{◌≡◌, ℕ, zero, suc, ◌+◌, ◌<◌, ◌≤◌, ◌==◌, max, List, [], ◌∷◌, length, get_or, map, refl, ap, sym, subst, ◌∙◌, cond, true, false, arith, codes, decimal, if◌then◌else◌}
+use Rattle.std.proofs.Common.{◌≡◌, ℕ, zero, suc, ◌<◌, ◌≤◌, ◌==◌, List, [], ◌∷◌, length, get_or, map, refl, ap, sym, subst, ◌∙◌, cond, true, false, arith, decimal}
 use Rattle.std.proofs.lemmas.Bool.Decides.{nat_tests}
 use Rattle.std.specs.List.{remove}
 use Rattle.lp_form.specs.declared.part.Part.TheVariants as part

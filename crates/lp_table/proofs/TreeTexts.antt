@@ -1,10 +1,10 @@
 -- Types and clauses are shown as their trees say.
-use Rattle.std.proofs.Common.{◌≡◌, ℕ, List, [], ◌∷◌, ◌++◌, Bool, map, codes, refl, sym, ap, ◌∙◌, Option, None, Some, String, Global, string_bytes, if◌then◌else◌}
+use Rattle.std.proofs.Common.{◌≡◌, ℕ, List, [], ◌∷◌, ◌++◌, Bool, map, codes, refl, ap, ◌∙◌, Option, None, Some, String, Global}
 use Rattle.std.specs.List.{flat_map, join_by}
 use Rattle.std.specs.Option.{option_map}
 use Rattle.lp_repr.specs.Shown.{binder_text, parameter_text, path_text}
 use Rattle.lp_repr.specs.ShownTypes.{arguments_text, bound_parameter_text, bound_text, clause_text, fn_head_text, held_text, parameters_text, reference_text, ret_text, row_texts, tuple_text, type_text}
-use Rattle.lp_repr.specs.TypeTrees.{TypeTree, TypeTrees, bound_parameter_tree, bound_tree, clause_tree, type_tree, row_trees, held_trees, name_of}
+use Rattle.lp_repr.specs.TypeTrees.{bound_parameter_tree, bound_tree, clause_tree, type_tree, row_trees, held_trees, name_of}
 use Rattle.lp_repr.specs.declared.parse_tree.TypeBound.{TypeBound}
 use Rattle.lp_repr.specs.declared.parse_tree.TypeBound.TheVariants as bound
 use Rattle.lp_repr.specs.declared.parse_tree.TypeBoundParameter.{TypeBoundParameter}

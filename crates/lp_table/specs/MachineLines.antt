@@ -1,5 +1,5 @@
 -- The struct that the driver asks, what it needs for expected lists, and the values of symbols.
-use Rattle.std.specs.Prelude.{ℕ, ◌+◌, ◌-◌, List, [], ◌∷◌, ◌++◌, length, map, codes, slice_get, unwrap_or, Option, Some, None, option_map, if◌then◌else◌}
+use Rattle.std.specs.Prelude.{ℕ, ◌+◌, ◌-◌, List, [], ◌∷◌, ◌++◌, length, codes, slice_get, unwrap_or, Option, Some, None, option_map, if◌then◌else◌}
 use Rattle.lp_form.specs.declared.part.Part.TheVariants as part
 use Rattle.lp_repr.specs.Numbering.{nonterminal_number, productions_of}
 use Rattle.lp_repr.specs.declared.lr1.Lr1State.{Lr1State}

@@ -1,5 +1,5 @@
 -- The parameters of the state machine of a grammar, with their texts.
-use Rattle.std.specs.Prelude.{◌≡◌, ℕ, List, [], ◌∷◌, ◌++◌, map, codes, string_bytes}
+use Rattle.std.specs.Prelude.{◌≡◌, ℕ, List, [], ◌∷◌, map, string_bytes}
 use Rattle.lp_form.specs.declared.part.Part.TheVariants as part
 use Rattle.lp_repr.specs.Shown.{parameter_text}
 use Rattle.lp_repr.specs.ShownTypes.{clause_text, type_text}

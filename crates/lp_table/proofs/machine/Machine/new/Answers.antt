@@ -1,10 +1,7 @@
-use Rattle.std.proofs.Common.{◌≡◌, ℕ, List, ap, ◌∙◌, map}
+use Rattle.std.proofs.Common.{◌≡◌, ap, ◌∙◌, map}
 use Rattle.lp_repr.specs.Shown.{parameter_text}
 use Rattle.lp_repr.specs.ShownTypes.{clause_text}
-use Rattle.lp_repr.specs.TypeTrees.{ClauseTree, TypeTree}
-use Rattle.lp_repr.specs.declared.repr.Parameter.{Parameter}
 use Rattle.lp_table.proofs.TreeTexts.{clauses_by_trees}
-use Rattle.lp_parts.specs.MachineParameters.{machine_clauses, machine_parameters}
 use Rattle.lp_parts.specs.Texts.{comma_list}
 use Rattle.lp_table.specs.TreeTexts.{clause_tree_text}
 use Rattle.lp_table.proofs.MachineFields.{fields_by_trees}
