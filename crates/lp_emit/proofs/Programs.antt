@@ -1,5 +1,5 @@
 -- A program of parts that are known.
-use Rattle.std.proofs.Common.{◌≡◌, ◌∙◌, List, [], ◌++◌, length, Result, Ok, Err, IfOk, ap}
+use Rattle.std.proofs.Common.{◌≡◌, ◌∙◌, ℕ, List, [], ◌++◌, length, Result, Ok, Err, IfOk, ap}
 use Rattle.std.specs.List.{flat_map}
 use Rattle.lp_form.specs.declared.part.Part.TheVariants as part
 use Rattle.lp_repr.specs.declared.lr1.StartStates.{StartStates}
@@ -8,6 +8,8 @@ use Rattle.lp_tree.specs.ProgramTree.{Item, items, program_items}
 use Rattle.lp_tree.specs.declared.tree.Node.{Node}
 use Rattle.lp_tree.specs.declared.tree.Program.{Program}
 use Rattle.lp_build.specs.Built.{over}
+use Rattle.lp_write.specs.declared.rust.Options.{Options}
+use Rattle.lp_emit.specs.Texts.{IsEmission, text_of}
 use Rattle.lp_emit.specs.Built.{AreModules, IsBuilt, front_lines, token_lines, triple_lines}
 
 pub built :
@@ -32,3 +34,11 @@ pub behind :
     l5 ≡ ((((a ++ b) ++ c) ++ d) ++ e)
 behind l0 l1 l2 l3 l4 l5 a b c d e h0 h1 h2 h3 h4 h5 =
     h5 ∙ ap (λ (l : List Item). l ++ e) (h4 ∙ ap (λ (l : List Item). l ++ d) (h3 ∙ ap (λ (l : List Item). l ++ c) (h2 ∙ ap (λ (l : List Item). l ++ b) (h1 ∙ ap (λ (l : List Item). l ++ a) h0))))
+
+-- a text of what was built
+pub emission :
+    {S E : Type 0} (g : Grammar) (states : List StartStates) (options : Options) (bytes : S → List ℕ) (result : Result S E) (program : Program) →
+    IsBuilt g states program → IfOk result (λ t. bytes t ≡ text_of options program) →
+    IfOk result (λ t. IsEmission g states options (bytes t))
+emission g states options bytes (Ok t) program is same = (program, is, same)
+emission g states options bytes (Err e) program is same = same
