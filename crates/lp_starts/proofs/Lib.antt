@@ -1,2 +1,6 @@
 pub mod Refused
 mod Steps
+mod Lists
+mod Reached
+mod Declared
+mod ValidStates

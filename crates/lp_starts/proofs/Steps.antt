@@ -1,19 +1,27 @@
 -- The tables of one start more.
-use Rattle.std.proofs.Common.{◌≡◌, ℕ, ◌+◌, ◌<◌, ◌≤◌, List, [], ◌∷◌, ◌++◌, length, get_or, map, Some, None, arith, sym, ap, ◌∙◌, subst, ⊎_elim}
+use Rattle.std.proofs.Common.{◌≡◌, ℕ, ◌+◌, ◌<◌, ◌≤◌, List, [], ◌∷◌, ◌++◌, length, get_or, map, Option, Some, None, MatchOption, arith, refl, sym, ap, ◌∙◌, subst, ⊎_elim}
 use Rattle.std.specs.List.{slice_get}
 use Rattle.std.specs.Borrow.{Bor}
 use Rattle.std.specs.BTreeMap.{keys}
 use Rattle.std.specs.Map.Iter.{deref}
 use Rattle.std.proofs.lemmas.List.{length_push, length-map}
 use Rattle.std.proofs.lemmas.Option.{slice_get_cases}
+use Rattle.lp_repr.specs.Closure.{given}
+use Rattle.lp_repr.specs.Numbering.{rules_of}
+use Rattle.lp_repr.specs.ValidTables.{IsValidTables}
+use Rattle.lp_repr.specs.declared.lr1.Lr1State.{Lr1State}
 use Rattle.lp_repr.specs.declared.lr1.StartStates.{StartStates}
+use Rattle.lp_repr.specs.declared.numbering.SymbolNumber.{SymbolNumber}
 use Rattle.lp_repr.specs.declared.repr.Grammar.{Grammar}
 use Rattle.lp_repr.specs.declared.repr.NonterminalString.{NonterminalString}
 use Rattle.lp_states.specs.Causes.{IsCause}
+use Rattle.lp_states.specs.States.{AreStates}
 use Rattle.lp_states.specs.declared.builder.BuildFault.TheVariants as build
 use Rattle.lp_states.proofs.WalkSteps.{push_cases}
 use Rattle.lp_valid.specs.ValidGrammar.{IsValidGrammar}
-use Rattle.lp_starts.specs.Tables.{IsTableOf, AreFirst, HaveNoFault, IsFaultAt, HasNoTables}
+use Rattle.lp_starts.specs.Tables.{AreStatesOf, IsTableOf, AreFirst, AreValid, ShiftsAscend, HaveNoFault, IsFaultAt, HasNoTables}
+use Rattle.lp_starts.proofs.Declared.{symbols_in_range, start_known}
+use Rattle.lp_starts.proofs.ValidStates.{are_valid_tables}
 use Rattle.lp_starts.specs.declared.tables.TablesFault.{TablesFault}
 use Rattle.lp_starts.specs.declared.tables.TablesFault.TheVariants.{BadGrammar, Conflict, TooManyStates, Memory}
 
@@ -26,6 +34,18 @@ first_more g n ts t h is = (
       (λ (a : (k ≡ length ts) × (u ≡ t)). subst (λ (j : ℕ). IsTableOf g j u) (sym (a.0 ∙ h.0)) (subst (λ (v : StartStates). IsTableOf g n v) (sym a.1) is))
       (push_cases ts t k u at),
 )
+
+-- the canonical states of a start of a valid grammar are valid tables
+pub states_valid : (g : Grammar) (start : ℕ) (name : NonterminalString) (states : List Lr1State) → IsValidGrammar g → slice_get (keys g.start_nonterminals) start ≡ Some name → AreStatesOf g start states → ShiftsAscend states → IsValidTables g start states
+states_valid g start name states v at are ascend =
+    let s = start_known g v start name at in
+    let m : (paths : List (List SymbolNumber)) × AreStates (rules_of g) s.0 paths states = subst (λ (o : Option ℕ). MatchOption o (states ≡ []) (λ n. (paths : List (List SymbolNumber)) × AreStates (rules_of g) n paths states)) s.1 are in
+    are_valid_tables g start s.0 m.0 states (symbols_in_range g v) m.1 s.1 (s.2, 0, given s.2 0 (s.3, refl)) ascend
+
+-- valid tables of one start more
+pub valid_more : (g : Grammar) (n : ℕ) (ts : List StartStates) (t : StartStates) → length ts ≡ n → AreValid g ts → IsValidTables g n t.states → AreValid g (ts ++ t ∷ [])
+valid_more g n ts t count h is k u at =
+    ⊎_elim (h k u) (λ (a : (k ≡ length ts) × (u ≡ t)). subst (λ (j : ℕ). IsValidTables g j u.states) (sym (a.0 ∙ count)) (subst (λ (v : StartStates). IsValidTables g n v.states) (sym a.1) is)) (push_cases ts t k u at)
 
 -- all of them
 pub first_all : (g : Grammar) (names : List (Bor NonterminalString)) (n : ℕ) (ts : List StartStates) → map deref names ≡ keys g.start_nonterminals → n ≡ length names → AreFirst g n ts → AreFirst g (length (keys g.start_nonterminals)) ts

@@ -1,8 +1,10 @@
 -- The tables of a grammar, and why it has none.
 use Rattle.std.specs.Prelude.{◌≡◌, ℕ, ◌<◌, List, [], length, Some, MatchOption, slice_get}
-use Rattle.std.specs.BTreeMap.{keys}
+use Rattle.std.specs.BTreeMap.{keys, IsOrdered}
+use Rattle.std.specs.List.{All}
+use Rattle.std.specs.Ordering.{nat_cmp}
 use Rattle.lp_repr.specs.Numbering.{rules_of}
-use Rattle.lp_repr.specs.ValidTables.{start_number}
+use Rattle.lp_repr.specs.ValidTables.{start_number, IsValidTables}
 use Rattle.lp_repr.specs.declared.lr1.Lr1State.{Lr1State}
 use Rattle.lp_repr.specs.declared.lr1.StartStates.{StartStates}
 use Rattle.lp_repr.specs.declared.numbering.SymbolNumber.{SymbolNumber}
@@ -33,6 +35,14 @@ AreFirst g count tables = (length tables ≡ count) × ((start : ℕ) (table : S
 pub record AreTablesOf (g : Grammar) (tables : List StartStates) : Type 0 where
   pub valid : IsValidGrammar g
   pub all : AreFirst g (length (keys g.start_nonterminals)) tables
+
+-- the terminals of each state's shifts ascend
+abbrev pub ShiftsAscend : List Lr1State → Type 0
+ShiftsAscend states = All (λ (s : Lr1State). IsOrdered nat_cmp s.shifts) states
+
+-- the states of each start are valid tables
+abbrev pub AreValid : Grammar → List StartStates → Type 0
+AreValid g tables = (start : ℕ) (table : StartStates) → slice_get tables start ≡ Some table → IsValidTables g start table.states
 
 -- each start before this one has states, so that neither cause holds of it
 abbrev pub HaveNoFault : Grammar → ℕ → Type 0

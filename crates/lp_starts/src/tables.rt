@@ -3,11 +3,12 @@
 ghost use Rattle.std.specs.Prelude.{◌≡◌, map, Some, IfOk, IfErr, MatchResult, slice_get};
 ghost use Rattle.std.specs.Map.Iter.{deref};
 ghost use Rattle.std.specs.BTreeMap.{keys};
+ghost use Rattle.lp_repr.specs.ValidTables.{IsValidTables};
 ghost use Rattle.lp_valid.specs.ValidGrammar.{IsValidGrammar};
-ghost use Rattle.lp_starts.specs.Tables.{AreTablesOf, HasNoTables, IsFaultAt, IsTableOf, StopsAt};
+ghost use Rattle.lp_starts.specs.Tables.{AreTablesOf, AreValid, HasNoTables, IsFaultAt, IsTableOf, ShiftsAscend, StopsAt};
 
 use lp_repr::repr::{Grammar, NonterminalString, Symbol};
-use lp_repr::{Items, StartStates, Token};
+use lp_repr::{Items, Lr1State, StartStates, Token};
 use lp_states::{BuildFault, build_states};
 use lp_valid::{GrammarFault, check_grammar};
 use std::alloc::{AllocError, AllocFailed, Global};
@@ -57,10 +58,11 @@ impl<T: Drop> From<AllocFailed<T>> for TablesFault {
     }
 }
 
-/// The canonical LR(1) states of each start, under its public name, in key order. A grammar that
-/// isn't valid is refused first, then the least start that has no states.
+/// The canonical LR(1) states of each start, under its public name, in key order; they are valid
+/// tables. A grammar that isn't valid is refused first, then the least start that has no states.
 pub fn tables_of(alloc: Global, grammar: &Grammar) -> Result<Vec<StartStates>, TablesFault>
     ensures tables { IfOk result (λ v. AreTablesOf grammar.now v.items) }
+    ensures valid { IfOk result (λ v. AreValid grammar.now v.items) }
     ensures fault { IfErr result (HasNoTables grammar.now) }
 {
     check(alloc, grammar)?;
@@ -98,17 +100,31 @@ fn table_of(
     start: usize,
     name: &NonterminalString,
 ) -> Result<StartStates, TablesFault>
-    requires { slice_get (keys grammar.now.start_nonterminals) start ≡ Some name.now }
+    requires valid { IsValidGrammar grammar.now }
+    requires name { slice_get (keys grammar.now.start_nonterminals) start ≡ Some name.now }
     ensures table { IfOk result (IsTableOf grammar.now start) }
+    ensures valid { IfOk result (λ t. IsValidTables grammar.now start t.states) }
     ensures fault { IfErr result (IsFaultAt grammar.now start) }
 {
     let start_name = NonterminalString(name.0.clone()?);
     match build_states(alloc, grammar, start) {
-        Ok(states) => Ok(StartStates {
-            start: start_name,
-            states: Items(states),
-        }),
+        Ok(states) => {
+            shifts_ascend(states.as_slice());
+            Ok(StartStates {
+                start: start_name,
+                states: Items(states),
+            })
+        }
         Err(fault) => Err(at_start(start, fault)),
+    }
+}
+
+/// The terminals of each state's shifts ascend, as a call of each map says.
+fn shifts_ascend(states: &[Lr1State])
+    ensures { ShiftsAscend states.now }
+{
+    for state in states {
+        state.shifts.len();
     }
 }
 
