@@ -1,0 +1,5 @@
+pub mod Known
+pub mod Steps
+pub mod Whole
+pub mod Telling
+pub mod DriverEnds
