@@ -16,7 +16,8 @@ use Rattle.lp_core.specs.Endings.{Ends}
 use Rattle.lp_core.specs.Eval.{run_call}
 use Rattle.lp_turns.specs.declared.runner.Runner.{Runner}
 use Rattle.lp_turns.specs.DriverCall.{begin}
-use Rattle.lp_run.specs.ProgramRun.{Finish, NoStart, parameters, call_finish, by_call, driver_finish, told_finish, drive_finish}
+use Rattle.lp_run.specs.ProgramRun.{Finish, NoStart, parameters, call_finish, by_call, driver_finish}
+use Rattle.lp_run.specs.RunTold.{told_finish, drive_finish}
 
 tells : (budget : ℕ) (e : Ending) (st : State) (fl : Flow) → Ends e st fl → call_finish budget fl ≡ told_finish budget e st.calls st.left
 tells budget (told.Value v) st fl h = ap (call_finish budget) h

@@ -69,23 +69,23 @@ HasBegun NoStart = ⊥
 HasBegun ParameterCount = ⊥
 HasBegun _ = Unit {0}
 
--- The answer tells how the module runs over its tables. Of a module of which nothing is said, a run began.
-abbrev pub RunsModule : Option Module → List RunItem → List Text → List ℕ → ℕ → Result Run RunError → Type 0
-RunsModule None items params failing budget result = IfSome (result_finish result) HasBegun
-RunsModule (Some m) items params failing budget result =
-    (tables : List Table) × (map entries_of tables ≡ m.tables) × Tells (module_run m tables items params failing budget) result
+-- A run of a module is one over tables that have its entries. Of a module of which nothing is said, a run began.
+abbrev pub RunsModule : Option Module → List RunItem → List Text → List ℕ → ℕ → Finish → Type 0
+RunsModule None items params failing budget told = HasBegun told
+RunsModule (Some m) items params failing budget told =
+    (tables : List Table) × (map entries_of tables ≡ m.tables) × (told ≡ module_run m tables items params failing budget)
 
--- there are as many values as parameters, or the answer tells that there are not
-abbrev pub RunsCounted : Bool → Option Module → List RunItem → List Text → List ℕ → ℕ → Result Run RunError → Type 0
-RunsCounted true m items params failing budget result = RunsModule m items params failing budget result
-RunsCounted false m items params failing budget result = Tells ParameterCount result
+-- whether there are as many values as parameters
+abbrev pub RunsCounted : Bool → Option Module → List RunItem → List Text → List ℕ → ℕ → Finish → Type 0
+RunsCounted true m items params failing budget told = RunsModule m items params failing budget told
+RunsCounted false m items params failing budget told = told ≡ ParameterCount
 
--- the answer for the items that a name enters, if there are any
-abbrev pub RunsItems : Program → Option Form → List RunItem → List Text → List ℕ → ℕ → Result Run RunError → Type 0
-RunsItems program None items params failing budget result = Tells NoStart result
-RunsItems program (Some form) items params failing budget result =
-    RunsCounted (parameter_count program form == length params) (module_in program form) items params failing budget result
+-- a run of the items that a name enters, if there are any
+abbrev pub RunsItems : Program → Option Form → List RunItem → List Text → List ℕ → ℕ → Finish → Type 0
+RunsItems program None items params failing budget told = told ≡ NoStart
+RunsItems program (Some form) items params failing budget told =
+    RunsCounted (parameter_count program form == length params) (module_in program form) items params failing budget told
 
--- the answer of a run of the parser of a public name
-abbrev pub RunsProgram : Program → List ℕ → List RunItem → List Text → List ℕ → ℕ → Result Run RunError → Type 0
-RunsProgram program start items params failing budget result = RunsItems program (named program start) items params failing budget result
+-- a run of the parser of a public name
+abbrev pub RunsProgram : Program → List ℕ → List RunItem → List Text → List ℕ → ℕ → Finish → Type 0
+RunsProgram program start items params failing budget told = RunsItems program (named program start) items params failing budget told

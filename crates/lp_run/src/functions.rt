@@ -106,6 +106,7 @@ fn ascent_made<'p>(maker: &mut Maker<'p>, form: Form<'p>) -> Result<Function, Al
 }
 
 // The function of a form of a module.
+#[tactic(auto, unfolding(crate::specs::Functions::function_made))]
 fn function_made<'p>(maker: &mut Maker<'p>, form: Form<'p>) -> Result<Function, AllocError>
     ensures { IfOk result (λ f. IfSome (function_made (making maker.old) (listed form.entry)) (λ m. made_of f (making maker.new) ≡ m)) }
 {

@@ -1,11 +1,11 @@
 //! Running a program.
 
-ghost use Rattle.std.specs.Prelude.{◌≡◌, suc, Some, IfOk, MatchOption};
+ghost use Rattle.std.specs.Prelude.{◌≡◌, suc, Some, IfOk, IfSome, MatchOption};
 ghost use Rattle.lp_core.specs.Store.{program_of};
 ghost use Rattle.lp_run.specs.ParseMethod.{parse_of};
 ghost use Rattle.lp_run.specs.Module.{module_of};
 ghost use Rattle.lp_run.specs.ProgramRun.{parameters, by_call, driven, after_step, by_driver, parsed, module_run};
-ghost use Rattle.lp_run.specs.RunTold.{outcome_finish, run_finish, finished, Tells, RunsProgram, told_finish, drive_finish};
+ghost use Rattle.lp_run.specs.RunTold.{outcome_finish, run_finish, finished, result_finish, Tells, RunsProgram, told_finish, drive_finish};
 
 use crate::enter::{Entered, enter};
 use crate::parse::Parser;
@@ -50,7 +50,7 @@ pub fn run_program(
     failing: &[u64],
     budget: u64,
 ) -> Result<Run, RunError>
-    ensures { RunsProgram program.now start.now items.now params.now failing.now budget result }
+    ensures { IfSome (result_finish result) (λ told. RunsProgram program.now start.now items.now params.now failing.now budget told) }
 {
     match enter(alloc, program, start)? {
         None => Err(RunError::NoStart),

@@ -1,7 +1,7 @@
 use Rattle.std.proofs.Common.{suc, ◌<◌, arith}
 use Rattle.lp_driver.specs.Turns.{run}
 use Rattle.lp_turns.specs.DriverCall.{program_answers, left_of}
-use Rattle.lp_run.specs.ProgramRun.{finished}
+use Rattle.lp_run.specs.RunTold.{finished}
 use Rattle.lp_run.proofs.Telling.{driver_tells}
 use Rattle.lp_run.proofs.run.run_driver.Goals as goal
 
