@@ -9,7 +9,7 @@ use Rattle.lp_driver.specs.declared.answers.Stop.{Stop}
 use Rattle.lp_driver.specs.declared.answers.Stop.TheVariants as stop
 use Rattle.lp_driver.specs.Values.{Text, Gives, Fails, value_of}
 use Rattle.lp_core.specs.declared.expr.Table.{Table}
-use Rattle.lp_core.specs.declared.run.Ending.TheVariants as told
+use Rattle.lp_core.specs.declared.run.Ending.TheVariants as over
 use Rattle.lp_core.specs.declared.run.Ending as call
 use Rattle.lp_core.specs.Store.{UserCall, call_of}
 use Rattle.lp_tree.specs.declared.tree.Program.{Program}
@@ -50,9 +50,9 @@ Tells finish result = IfSome (result_finish result) (λ told. told ≡ finish)
 
 -- what the end of a call tells, after these calls of user code and with so many steps left
 abbrev pub told_finish : ℕ → call.Ending → List UserCall → ℕ → Finish
-told_finish budget (told.Value v) calls left = value_finish budget (result_of v) calls left
-told_finish budget told.Spent calls left = Spent calls budget
-told_finish budget told.Stuck calls left = Stuck (budget - left)
+told_finish budget (over.Value v) calls left = value_finish budget (result_of v) calls left
+told_finish budget over.Spent calls left = Spent calls budget
+told_finish budget over.Stuck calls left = Stuck (budget - left)
 
 -- what the driver's answer tells
 abbrev pub drive_finish : ℕ → Result Outcome Stop → List UserCall → ℕ → Option Finish

@@ -52,7 +52,8 @@ pub fn run_program(
 ) -> Result<Run, RunError>
     ensures { IfSome (result_finish result) (λ told. RunsProgram program.now start.now items.now params.now failing.now budget told) }
 {
-    match enter(alloc, program, start)? {
+    let found = enter(alloc, program, start)?;
+    match found {
         None => Err(RunError::NoStart),
         Some(code) => {
             if code.params == params.len() {
@@ -74,7 +75,8 @@ fn run_code<'p>(
 ) -> Result<Run, RunError>
     ensures { Tells (module_run (module_of code.now) code.now.code.tables.items items.now params.now failing.now budget) result }
 {
-    match run_module(alloc, code, items, params, failing, budget)? {
+    let finished = run_module(alloc, code, items, params, failing, budget)?;
+    match finished {
         Finished::Ran(run) => Ok(run),
         Finished::Stuck(steps) => Err(RunError::Stuck { steps }),
     }

@@ -25,6 +25,6 @@ returns c =
     let begun : b ≡ beginning start (program_items program) = c.in_ok-begun.ensures ∙ ap (λ (f : Form). beginning start f) whole in
     let is = finished_is code.functions.items (map entries_of code.tables.items) code.texts.items c.slots-params.result c.in_ok-names.names.next b.located r c.in_ok-code.ensures.functions c.in_ok-code.ensures.tables c.in_ok-code.ensures.texts c.slots-params.ensures in
     record {
-    params = c.slots-params.ensures ∙ ap (λ (n : Names). n.next) (c.in_ok-names.ensures ∙ ap (λ (p : List ℕ). parameters_of p items) same);
-    code = entered_known prefix program.prefix (program_items program) items start c.in_ok-names.names b r _ same c.new-maker.ensures c.in_ok-names.ensures begun is c.in_ok-parser.ensures
+      params = c.slots-params.ensures ∙ ap (λ (n : Names). n.next) (c.in_ok-names.ensures ∙ ap (λ (p : List ℕ). parameters_of p items) same);
+      code = entered_known prefix program.prefix (program_items program) items start c.in_ok-names.names b r _ same c.new-maker.ensures c.in_ok-names.ensures begun is c.in_ok-parser.ensures;
     }
