@@ -1,5 +1,5 @@
 pub mod Known
-pub mod Steps
+pub mod Rows
 pub mod Whole
 pub mod Answering
 pub mod Telling

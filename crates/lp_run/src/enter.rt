@@ -95,8 +95,10 @@ fn made_after<'p>(
 {
     with_source(maker, items, begun.located)?;
     let promises = module_rows(maker, items)?;
-    all_made(maker, promises.as_slice())?;
-    actions_made(maker, begun.actions.as_slice())?;
+    let functions = promises.as_slice();
+    all_made(maker, functions)?;
+    let actions = begun.actions.as_slice();
+    actions_made(maker, actions)?;
     let closure = maker.item_closure;
     let parser = parse_made(maker, items, names)?;
     Ok((parser, closure))

@@ -1,11 +1,13 @@
 //! Running a program.
 
-ghost use Rattle.std.specs.Prelude.{◌≡◌, suc, Some, IfOk, IfSome, MatchOption};
+ghost use Rattle.std.specs.Prelude.{◌≡◌, suc, Some, None, Option, IfOk, IfSome, MatchOption};
 ghost use Rattle.lp_core.specs.Store.{program_of};
-ghost use Rattle.lp_run.specs.ParseMethod.{parse_of};
+ghost use Rattle.lp_tree.specs.declared.tree.Program.{Program};
+ghost use Rattle.lp_view.specs.PartLists.{Form};
+ghost use Rattle.lp_run.specs.Entered.{EntersSome};
 ghost use Rattle.lp_run.specs.Module.{module_of};
 ghost use Rattle.lp_run.specs.ProgramRun.{parameters, by_call, driven, after_step, by_driver, parsed, module_run};
-ghost use Rattle.lp_run.specs.RunTold.{outcome_finish, run_finish, finished, result_finish, Tells, RunsProgram, told_finish, drive_finish};
+ghost use Rattle.lp_run.specs.RunTold.{outcome_finish, run_finish, finished, result_finish, Tells, RunsItems, RunsProgram, told_finish, drive_finish};
 
 use crate::enter::{Entered, enter};
 use crate::parse::Parser;
@@ -53,16 +55,41 @@ pub fn run_program(
     ensures { IfSome (result_finish result) (λ told. RunsProgram program.now start.now items.now params.now failing.now budget told) }
 {
     let found = enter(alloc, program, start)?;
+    run_found(alloc, &found, items, params, failing, budget)
+}
+
+// Runs what was found under a name.
+fn run_found<'p>(
+    alloc: Global,
+    found: &'p Option<Entered>,
+    items: &'p [RunItem],
+    params: &'p [Text],
+    failing: &'p [u64],
+    budget: u64,
+) -> Result<Run, RunError>
+    ensures { (program : Program) (o : Option Form) → MatchOption found.now (o ≡ None) (λ e. EntersSome program o e) → IfSome (result_finish result) (λ told. RunsItems program o items.now params.now failing.now budget told) }
+{
     match found {
         None => Err(RunError::NoStart),
-        Some(code) => {
-            if code.params == params.len() {
-                run_code(alloc, &code, items, params, failing, budget)
-            } else {
-                Err(RunError::ParameterCount)
-            }
-        }
+        Some(code) => run_counted(alloc, code, items, params, failing, budget),
     }
+}
+
+// Runs code that has so many parameters.
+fn run_counted<'p>(
+    alloc: Global,
+    code: &'p Entered,
+    items: &'p [RunItem],
+    params: &'p [Text],
+    failing: &'p [u64],
+    budget: u64,
+) -> Result<Run, RunError>
+    ensures { (program : Program) (o : Option Form) → EntersSome program o code.now → IfSome (result_finish result) (λ told. RunsItems program o items.now params.now failing.now budget told) }
+{
+    if code.params != params.len() {
+        return Err(RunError::ParameterCount);
+    }
+    run_code(alloc, code, items, params, failing, budget)
 }
 
 fn run_code<'p>(
