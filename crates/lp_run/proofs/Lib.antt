@@ -1,0 +1,6 @@
+pub mod Known
+pub mod Rows
+pub mod Whole
+pub mod Answering
+pub mod Telling
+pub mod DriverEnds

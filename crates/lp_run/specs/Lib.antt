@@ -1,0 +1,9 @@
+pub mod Named
+pub mod Promised
+pub mod Functions
+pub mod ParseMethod
+pub mod Module
+pub mod Entered
+pub mod ProgramRun
+pub mod RunTold
+pub mod RunLaw

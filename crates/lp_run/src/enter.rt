@@ -1,37 +1,27 @@
 //! A program is entered once: its forms become functions of the core language.
 
-use lp_ascent_bodies::ascent::{start, state_fn};
-use lp_ascent_bodies::ascent_reduce::{ascent_accepts, ascent_expected, ascent_simulate};
-use lp_bodies::action::action_fn;
-use lp_bodies::methods::make_methods;
-use lp_bodies::reduce::{accepts, pop, reduce, reduce_fn, simulate_reduce};
-use lp_bodies::source::{is_located, item_closure};
-use lp_bodies::table::{
-    action_lookup, expected, expected_from_states, goto_fn, make_table, make_terminals,
-    token_to_integer, token_to_symbol,
-};
-use lp_core::{Code, Expr, Function};
-use lp_form::Part;
-use lp_maker::forms::{Form, first};
+ghost use Rattle.std.specs.Prelude.{◌≡◌, None, OnOk, IfOk, IfSome, MatchOption};
+ghost use Rattle.std.specs.Option.{option_map};
+ghost use Rattle.lp_tree.specs.ProgramTree.{program_items};
+ghost use Rattle.lp_view.specs.PartLists.{listed};
+ghost use Rattle.lp_maker.specs.Making.{making};
+ghost use Rattle.lp_run.specs.Named.{named};
+ghost use Rattle.lp_run.specs.Promised.{beginning_of, promises_of};
+ghost use Rattle.lp_run.specs.ParseMethod.{parse_of, parsing_of};
+ghost use Rattle.lp_run.specs.Entered.{with_closure, sourced, with_source, ready_of, made_after, Enters, EntersSome};
+
+use crate::functions::{actions_made, all_made};
+use crate::named::{is_interned, items_under, parser_of};
+use crate::parse::{Parser, parameters_of, parse_made};
+use crate::promised::{Begun, beginning, module_rows};
+use lp_bodies::source::item_closure;
+use lp_core::Code;
+use lp_maker::forms::Form;
 use lp_maker::maker::Maker;
-use lp_maker::methods::Methods;
 use lp_maker::scope::Scope;
-use lp_maker::texts::{Bound, bound_by, plain_name};
 use lp_tree::Program;
 use lp_view::root;
 use std::alloc::{AllocError, Global};
-
-/// What the `parse` method of a start does.
-#[derive(Drop)]
-pub enum Parser {
-    /// It calls the driver over the methods, with the parameters of these numbers as fields.
-    Drive {
-        methods: Methods,
-        fields: Vec<Option<usize>>,
-    },
-    /// It calls the function of this number.
-    Ascent(usize),
-}
 
 /// The code of a start's module.
 #[derive(Drop)]
@@ -51,87 +41,42 @@ pub fn enter(
     alloc: Global,
     program: &Program<'_>,
     start: &str,
-) -> Result<Option<Entered>, AllocError> {
-    match module_of(program, start) {
+) -> Result<Option<Entered>, AllocError>
+    ensures { IfOk result (λ o. MatchOption o (named program.now start.now ≡ None) (λ e. EntersSome program.now (named program.now start.now) e)) }
+{
+    match named(program, start) {
         None => Ok(None),
-        Some(items) => Ok(Some(enter_module(alloc, program, items)?)),
-    }
-}
-
-// The items of the first module under a public name.
-fn module_of<'p>(program: &'p Program<'_>, start: &str) -> Option<Form<'p>> {
-    for module in root(program).as_part().parts() {
-        if module.part() == Part::ParseModule {
-            if let Some(items) = items_of(module) {
-                if let Some(parser) = parser_of(items) {
-                    if parser.hole(1) == start {
-                        return Some(items);
-                    }
-                }
-            }
+        Some(items) => {
+            let entered = enter_items(alloc, program, items)?;
+            Ok(Some(entered))
         }
     }
-    None
 }
 
-fn items_of(module: Form<'_>) -> Option<Form<'_>> {
-    for child in module.parts() {
-        if child.part() == Part::TableItems || child.part() == Part::AscentItems {
-            return Some(child);
-        }
-    }
-    None
+fn named<'p>(program: &'p Program<'_>, start: &str) -> Option<Form<'p>>
+    ensures { option_map listed result ≡ named program.now start.now }
+{
+    items_under(start, root(program).as_part())
 }
 
-fn parser_of(items: Form<'_>) -> Option<Form<'_>> {
-    for child in items.parts() {
-        match child.part() {
-            Part::TableParserInterned
-            | Part::TableParserPlain
-            | Part::AscentParserInterned
-            | Part::AscentParserPlain => return Some(child),
-            _ => {}
-        }
-    }
-    None
-}
-
-fn enter_module<'p>(
+// Enters these items of a program.
+fn enter_items<'p>(
     alloc: Global,
     program: &'p Program<'_>,
     items: Form<'p>,
-) -> Result<Entered, AllocError> {
-    let mut maker = Maker::new(alloc, program.prefix());
-    let mut located = false;
-    let mut actions = Vec::new(alloc);
-    for form in root(program).as_part().parts() {
-        match form.part() {
-            Part::ToTripleLocated
-            | Part::ToTripleLocatedWhere
-            | Part::ToTriplePlain
-            | Part::ToTriplePlainWhere => located = is_located(form),
-            Part::ActionFn | Part::ActionFnUnused | Part::Lookaround | Part::LookaroundUnused => {
-                let number = maker.declare("super::action", header_number(form))?;
-                actions.push((number, form))?;
-            }
-            _ => {}
-        }
-    }
-    if !interned(items) {
-        maker.item_closure = Some(item_closure(&mut maker, located)?);
-    }
-    module(&mut maker, items)?;
-    for (number, form) in actions {
-        let function = action_fn(&mut maker, form)?;
-        maker.define(number, function);
-    }
-    let closure = maker.item_closure;
-    let (params, parser) = match parser_of(items) {
-        None => (0, Parser::Ascent(usize::MAX)),
-        Some(form) => parse_method(&mut maker, items, form)?,
-    };
+) -> Result<Entered, AllocError>
+    ensures { IfOk result (λ e. Enters program.now (listed items.entry) e) }
+{
+    let prefix = program.prefix.as_str();
+    let names = parameters_of(alloc, prefix, items)?;
+    let params = names.slots();
+    let mut maker = Maker::new(alloc, prefix);
+    let begun = beginning(&mut maker, root(program).as_part())?;
+    let located = begun.located;
+    let (parser, closure) = made_after(&mut maker, items, names, begun)?;
+    let code = maker.finish()?;
     Ok(Entered {
-        code: maker.finish()?,
+        code,
         parser,
         params,
         closure,
@@ -139,161 +84,56 @@ fn enter_module<'p>(
     })
 }
 
-fn interned(items: Form<'_>) -> bool {
-    match parser_of(items) {
-        None => false,
-        Some(parser) => {
-            parser.part() == Part::TableParserInterned
-                || parser.part() == Part::AscentParserInterned
-        }
-    }
+// Makes the closure of items, the functions of the module and of the actions, and what `parse` does.
+fn made_after<'p>(
+    maker: &mut Maker<'p>,
+    items: Form<'p>,
+    names: Scope,
+    begun: Begun<'p>,
+) -> Result<(Parser, Option<usize>), AllocError>
+    ensures { IfOk result (λ r. IfSome (made_after (listed items.entry) names (beginning_of begun.entry.located (promises_of begun.entry.actions.items) (making maker.old))) (λ s. ready_of r.1 (parsing_of (parse_of r.0) (making maker.new)) ≡ s)) }
+{
+    with_source(maker, items, begun.located)?;
+    let promises = module_rows(maker, items)?;
+    let functions = promises.as_slice();
+    all_made(maker, functions)?;
+    let actions = begun.actions.as_slice();
+    actions_made(maker, actions)?;
+    let closure = maker.item_closure;
+    let parser = parse_made(maker, items, names)?;
+    Ok((parser, closure))
 }
 
-// Declares and makes the functions of a module; what is declared is made afterwards, so that each
-// can call each.
-fn module<'p>(maker: &mut Maker<'p>, items: Form<'p>) -> Result<(), AllocError> {
-    let mut declared = Vec::new(maker.alloc);
-    for form in items.parts() {
-        match form.part() {
-            Part::ActionTable => maker.action_table = make_table(maker, form)?,
-            Part::EofTable => maker.eof_table = make_table(maker, form)?,
-            Part::TerminalList => make_terminals(maker, form)?,
-            _ => {
-                if let Some((name, rest)) = function_name(form) {
-                    declared.push((maker.declare(name, rest)?, form))?;
-                }
-            }
-        }
-    }
-    for (number, form) in declared {
-        let function = made(maker, form)?;
-        maker.define(number, function);
-    }
+fn with_closure<'p>(maker: &mut Maker<'p>, located: bool) -> Result<(), AllocError>
+    ensures { OnOk result (making maker.new ≡ with_closure located (making maker.old)) }
+{
+    let number = item_closure(maker, located)?;
+    maker.item_closure = Some(number);
     Ok(())
 }
 
-// The name of a module's function, without the prefix, and its number or variant.
-fn function_name(form: Form<'_>) -> Option<(&'static str, &str)> {
-    match form.part() {
-        Part::ActionLookup | Part::ActionLookupOne => Some(("action", "")),
-        Part::GotoFn => Some(("goto", "")),
-        Part::Expected => Some(("expected_tokens", "")),
-        Part::ExpectedFromStates => Some(("expected_tokens_from_states", "")),
-        Part::TokenToInteger => Some(("token_to_integer", "")),
-        Part::TokenToSymbol => Some(("token_to_symbol", "")),
-        Part::SimulateReduce => Some(("simulate_reduce", "")),
-        Part::Accepts | Part::AscentAccepts => Some(("accepts", "")),
-        Part::Reduce => Some(("reduce", "")),
-        Part::Mismatch => Some(("symbol_type_mismatch", "")),
-        Part::Pop => Some(("pop_", form.hole(0))),
-        Part::ReduceFn => Some(("reduce", header_number(form))),
-        Part::StateFn => Some(("state", header_number(form))),
-        Part::AscentSimulate => Some(("simulate", "")),
-        Part::AscentExpected => Some(("expected", "")),
-        _ => None,
-    }
-}
-
-// The printed number of a function with a header.
-fn header_number(form: Form<'_>) -> &str {
-    match first(form) {
-        None => "",
-        Some(header) => header.hole(0),
-    }
-}
-
-fn made<'p>(maker: &mut Maker<'p>, form: Form<'p>) -> Result<Function, AllocError> {
-    match form.part() {
-        Part::ActionLookup | Part::ActionLookupOne => action_lookup(maker, form),
-        Part::GotoFn => goto_fn(maker, form),
-        Part::Expected => expected(maker),
-        Part::TokenToInteger => token_to_integer(maker, form),
-        Part::TokenToSymbol => token_to_symbol(maker, form),
-        Part::SimulateReduce => simulate_reduce(maker, form),
-        Part::Reduce => reduce(maker, form),
-        Part::Pop => pop(maker, form),
-        Part::ReduceFn => reduce_fn(maker, form),
-        Part::StateFn => state_fn(maker, form),
-        Part::AscentSimulate => ascent_simulate(maker, form),
-        Part::AscentAccepts => ascent_accepts(maker, form),
-        Part::AscentExpected => ascent_expected(maker),
-        Part::ExpectedFromStates => match first(form) {
-            Some(header) => expected_from_states(maker, header),
-            None => Ok(without_meaning(maker)),
-        },
-        Part::Accepts => match first(form) {
-            Some(header) => accepts(maker, header),
-            None => Ok(without_meaning(maker)),
-        },
-        _ => Ok(without_meaning(maker)),
-    }
-}
-
-// As `panic!`.
-fn without_meaning(maker: &Maker<'_>) -> Function {
-    maker.function(0, &Scope::new(maker.alloc), Expr::stuck())
-}
-
-// How many parameters `parse` has, and what it does.
-fn parse_method<'p>(
+fn sourced<'p>(
     maker: &mut Maker<'p>,
-    items: Form<'p>,
-    form: Form<'p>,
-) -> Result<(usize, Parser), AllocError> {
-    let mut scope = Scope::new(maker.alloc);
-    let mut params = 0;
-    let mut parser = Parser::Ascent(usize::MAX);
-    for child in form.parts() {
-        match child.part() {
-            Part::HeaderParse => {
-                scope = parse_scope(maker, child)?;
-                params = scope.slots();
+    located: bool,
+    parser: Option<Form<'p>>,
+) -> Result<(), AllocError>
+    ensures { OnOk result (making maker.new ≡ sourced located (making maker.old) (option_map listed parser.entry)) }
+{
+    match parser {
+        None => with_closure(maker, located),
+        Some(parser) => {
+            if is_interned(parser) {
+                Ok(())
+            } else {
+                with_closure(maker, located)
             }
-            Part::Drive => parser = drive_call(maker, items, child, &scope)?,
-            Part::Start => {
-                let body = start(maker, &mut scope, child)?;
-                let function = maker.function(params, &scope, body);
-                parser = Parser::Ascent(maker.closure(function)?);
-            }
-            _ => {}
         }
     }
-    Ok((params, parser))
 }
 
-// The parameters of the grammar.
-fn parse_scope<'p>(maker: &Maker<'p>, header: Form<'p>) -> Result<Scope, AllocError> {
-    let mut scope = Scope::new(maker.alloc);
-    for row in header.parts() {
-        if row.part() == Part::ParameterRow {
-            if let Bound::Named(name) = bound_by(row.hole(0)) {
-                let name = plain_name(maker.alloc, maker.prefix, name)?;
-                if name.as_str() != "~tokens0" {
-                    scope.bind(maker.alloc, name.as_str())?;
-                }
-            }
-        }
-    }
-    Ok(scope)
-}
-
-fn drive_call<'p>(
-    maker: &mut Maker<'p>,
-    items: Form<'p>,
-    form: Form<'p>,
-    scope: &Scope,
-) -> Result<Parser, AllocError> {
-    let mut fields = Vec::new(maker.alloc);
-    let mut names = Scope::new(maker.alloc);
-    for row in form.parts() {
-        fields.push(scope.find(row.hole(0)))?;
-        names.bind(maker.alloc, row.hole(0))?;
-    }
-    for child in items.parts() {
-        if child.part() == Part::MachineImpl {
-            let methods = make_methods(maker, child, &names, fields.len())?;
-            return Ok(Parser::Drive { methods, fields });
-        }
-    }
-    Ok(Parser::Ascent(usize::MAX))
+// The closure that makes triples of items, where the grammar is not interned.
+fn with_source<'p>(maker: &mut Maker<'p>, items: Form<'p>, located: bool) -> Result<(), AllocError>
+    ensures { OnOk result (making maker.new ≡ with_source (listed items.entry) located (making maker.old)) }
+{
+    sourced(maker, located, parser_of(items))
 }

@@ -1,6 +1,7 @@
-//! The driver over the methods of a program, turn by turn.
+//! A program as a parser's definition: the driver's questions are answered by calls of its methods.
 #![tactic(auto)]
 
-pub mod recover;
+pub mod asked;
+pub mod calls;
+pub mod readings;
 pub mod runner;
-pub mod turns;

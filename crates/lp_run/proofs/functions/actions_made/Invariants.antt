@@ -1,0 +1,10 @@
+-- What the actions that are left make, after those so far.
+use Rattle.std.proofs.Common.{◌≡◌, drop}
+use Rattle.lp_maker.specs.Making.{making}
+use Rattle.lp_run.specs.Promised.{promises_of}
+use Rattle.lp_run.specs.Functions.{actions_made}
+use Rattle.lp_run.proofs.functions.actions_made.Given as goal
+
+abbrev pub invariant-loop-one : goal.invariant-loop-one
+invariant-loop-one l =
+    actions_made (making l.maker) (promises_of (drop l.one-index l.promises)) ≡ actions_made (making l.fn.maker) (promises_of l.promises)
