@@ -16,7 +16,7 @@ use Rattle.lp_lines.specs.File.{IsCutFile}
 use Rattle.lp_write.specs.Sinks.{Told}
 use Rattle.lp_write.specs.declared.rust.Options.{Options}
 use Rattle.lp_tool.specs.Command.{looks}
-use Rattle.lp_tool.specs.Outputs.{IsRunOutput, IsTailIn}
+use Rattle.lp_tool.specs.Outputs.{IsReport, IsRunOutput, IsTailIn, first_count}
 use Rattle.lp_tool.specs.Causes.{IsOfFile, IsStop, Written}
 use Rattle.lp_tool.specs.Told.{AreTablesOrNone, Holds, IsEmitted, IsMade, IsPrepared, IsRefusal, IsRefused, Tells, TellsOf, ToldOf, Wrote}
 use Rattle.lp_tool.specs.declared.command.Command.{Command}
@@ -81,8 +81,8 @@ made_emit options left plain g tables text_len output l a m e n = (g, l, emitted
 pub made_run : (options : Options) (left : Option (List ℕ)) (plain : PlainGrammar) (g : Grammar) (tables : List StartStates) (tail : List ℕ) (text_len : ℕ) (output : List ℕ) → LowersTo plain g → AreTablesOrNone g tables → MayBeEmitted g tables → IsTailIn left tail → IsRunOutput g tables options tail text_len output → IsMade (Some (asked.Run options)) left plain tables text_len output
 made_run options left plain g tables tail text_len output l a m t r = (g, l, emitted g tables a m, (tail, t, r))
 
-pub made_make : (levels : ℕ) (left : Option (List ℕ)) (plain : PlainGrammar) (g : Grammar) (tables : List StartStates) (text_len : ℕ) (output text : List ℕ) → LowersTo plain g → AreTablesOrNone g tables → MayBeEmitted g tables → IsEmission g tables (looks false true) text → text_len ≡ length text → IsMade (Some (asked.Make levels)) left plain tables text_len output
-made_make levels left plain g tables text_len output text l a m e n = (g, l, emitted g tables a m, (text, e, n))
+pub made_make : (levels : ℕ) (left : Option (List ℕ)) (plain : PlainGrammar) (g : Grammar) (tables : List StartStates) (text_len : ℕ) (output text : List ℕ) → LowersTo plain g → AreTablesOrNone g tables → MayBeEmitted g tables → IsEmission g tables (looks false true) text → text_len ≡ length text → IsReport (first_count tables) text_len output → IsMade (Some (asked.Make levels)) left plain tables text_len output
+made_make levels left plain g tables text_len output text l a m e n r = (g, l, emitted g tables a m, (text, e, n, r))
 
 some_same : (a b : List ℕ) → Some a ≡ Some b → a ≡ b
 some_same a b p = ap (λ (o : Option (List ℕ)). unwrap_or o a) p

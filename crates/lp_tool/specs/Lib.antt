@@ -3,3 +3,4 @@ pub mod Command
 pub mod Status
 pub mod Outputs
 pub mod Told
+pub mod LinesTold

@@ -1,7 +1,7 @@
 -- What a command writes.
-use Rattle.std.specs.Prelude.{◌≡◌, ℕ, zero, suc, ◌+◌, true, false, List, [], ◌∷◌, ◌++◌, length, map, slice_get, Option, Some, None, IfSome, codes}
+use Rattle.std.specs.Prelude.{◌≡◌, ℕ, zero, suc, ◌+◌, true, false, List, [], ◌∷◌, ◌++◌, length, map, slice_get, Option, Some, None, IfSome, codes, decimal}
 use Rattle.lp_emit.specs.Texts.{IsEmission}
-use Rattle.lp_lines.specs.Blocks.{block_text}
+use Rattle.lp_lines.specs.Blocks.{block_text, ending_text, line_text, steps_text}
 use Rattle.lp_lines.specs.File.{IsCutFile}
 use Rattle.lp_lines.specs.Scan.{all_some}
 use Rattle.lp_lines.specs.TokenLines.{line_of, lines_of}
@@ -52,6 +52,29 @@ pub record IsRunOutput (g : Grammar) (tables : List StartStates) (options : Opti
   pub told : AreBlocks lines (length lines) blocks
   pub whole : output ≡ text ++ (codes "---" ++ 10 ∷ blocks)
 
+-- the number of the states of the first start
+abbrev pub first_count : List StartStates → ℕ
+first_count [] = 0
+first_count (one ∷ others) = length one.states
+
+-- the number of calls of user code, of a run that isn't stuck
+abbrev pub calls_text : List Event → Option Outcome → List ℕ
+calls_text events None = []
+calls_text events (Some outcome) = line_text (codes "calls " ++ decimal (length events))
+
+-- the lines that tell of a run: its calls, how it ends, and its steps
+abbrev pub course_text : List Event → Option Outcome → ℕ → List ℕ
+course_text events outcome steps = calls_text events outcome ++ (line_text (ending_text outcome) ++ steps_text (Some steps))
+
+-- the lines that tell of a text and its tables
+abbrev pub size_text : ℕ → ℕ → List ℕ
+size_text states text_len = line_text (codes "states " ++ decimal states) ++ line_text (codes "text " ++ decimal text_len)
+
+-- what is told of a generated text: the number of its states, its length, and a run
+abbrev pub IsReport : ℕ → ℕ → List ℕ → Type 0
+IsReport states text_len output =
+    (course : Course) × (output ≡ size_text states text_len ++ course_text course.events course.outcome course.steps)
+
 -- a tail that follows the text of a file, where its bytes are told
 abbrev pub IsTailIn : Option (List ℕ) → List ℕ → Type 0
 IsTailIn left tail = (bytes : List ℕ) → left ≡ Some bytes → (text : List ℕ) × IsCutFile bytes text tail
@@ -60,4 +83,5 @@ IsTailIn left tail = (bytes : List ℕ) → left ≡ Some bytes → (text : List
 abbrev pub IsOutput : Command → Option (List ℕ) → Grammar → List StartStates → ℕ → List ℕ → Type 0
 IsOutput (Emit options) left g tables text_len output = IsEmission g tables options output × (text_len ≡ length output)
 IsOutput (Run options) left g tables text_len output = (tail : List ℕ) × IsTailIn left tail × IsRunOutput g tables options tail text_len output
-IsOutput (Make levels) left g tables text_len output = (text : List ℕ) × IsEmission g tables (looks false true) text × (text_len ≡ length text)
+IsOutput (Make levels) left g tables text_len output =
+    (text : List ℕ) × IsEmission g tables (looks false true) text × (text_len ≡ length text) × IsReport (first_count tables) text_len output

@@ -48,10 +48,6 @@ ToldOf g (TooManyStates start paths) = HasNoTables g (none.TooManyStates start p
 ToldOf g (Refused error) = IsRefused g error
 ToldOf g status = Unit {0}
 
--- a status that tells nothing of a grammar
-abbrev pub SaysNothing : Status → Type 0
-SaysNothing status = (g : Grammar) → ToldOf g status
-
 -- the tables are those of the grammar, and it may be emitted with them
 abbrev pub IsEmitted : Grammar → List StartStates → Type 0
 IsEmitted g tables = AreTablesOf g tables × MayBeEmitted g tables

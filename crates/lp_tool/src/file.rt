@@ -1,9 +1,11 @@
 //! From the bytes of a grammar file to its grammar and states.
 
-ghost use Rattle.std.specs.Prelude.{◌≡◌, ℕ, List, None, Some, IfOk, IfErr};
+ghost use Rattle.std.specs.Prelude.{◌≡◌, ℕ, List, Option, None, Some, IfOk, IfErr};
 ghost use Rattle.lp_plain.specs.Front.{LowersTo};
 ghost use Rattle.lp_repr.specs.declared.repr.Grammar.{Grammar};
 ghost use Rattle.lp_tool.specs.Causes.{IsOfFile};
+ghost use Rattle.lp_tool.specs.LinesTold.{IsOfNoLine, TellsLine, ToldOfLines};
+ghost use Rattle.lp_tool.specs.Outputs.{IsTailIn};
 ghost use Rattle.lp_tool.specs.Told.{AreTablesOrNone, Holds, IsFile, Tells, ToldOf};
 
 use crate::status::Status;
@@ -49,6 +51,8 @@ impl Stop {
         ensures status { result.status ≡ status }
         ensures grammar { Holds grammar status result.grammar }
         ensures told { (g : Grammar) → LowersTo grammar g → ToldOf g status → IsOfFile status → Tells result.grammar result.status }
+        ensures line { (g : Grammar) → (left : Option (List ℕ)) → (tail : List ℕ) → LowersTo grammar g → IsTailIn left tail → ToldOfLines g tail status → TellsLine left result.grammar result.status }
+        ensures no_line { (left : Option (List ℕ)) → IsOfNoLine status → TellsLine left result.grammar result.status }
     {
         match status {
             Status::Memory => Stop::bare(status),
@@ -65,6 +69,7 @@ pub fn file_of(alloc: Global, bytes: &[u8]) -> Result<File, Stop>
     ensures file { IfOk result (IsFile bytes.now) }
     ensures stops { IfErr result (λ stop. IsOfFile stop.status) }
     ensures told { IfErr result (λ stop. Tells stop.grammar stop.status) }
+    ensures line { (left : Option (List ℕ)) → IfErr result (λ stop. TellsLine left stop.grammar stop.status) }
 {
     let (text, tail) = cut_file(bytes);
     let (plain, lowered) = match lowered_of(alloc, text) {
@@ -86,6 +91,7 @@ pub fn file_of(alloc: Global, bytes: &[u8]) -> Result<File, Stop>
 fn unread(fault: BytesFault) -> Stop
     ensures stops { IsOfFile result.status }
     ensures told { Tells result.grammar result.status }
+    ensures line { (left : Option (List ℕ)) → TellsLine left result.grammar result.status }
 {
     match fault {
         BytesFault::Grammar { place } => Stop::bare(Status::Grammar { place }),
@@ -102,6 +108,7 @@ fn tables_and_tail(
     ensures tail { IfOk result (λ both. both.1.items ≡ tail.now) }
     ensures stops { IfErr result IsOfFile }
     ensures told { IfErr result (ToldOf grammar.now) }
+    ensures no_line { IfErr result IsOfNoLine }
 {
     let tables = tables_or_none(alloc, grammar)?;
     match Vec::from_slice(alloc, tail) {
@@ -115,6 +122,7 @@ fn tables_or_none(alloc: Global, grammar: &Grammar) -> Result<Vec<StartStates>, 
     ensures tables { IfOk result (λ v. AreTablesOrNone grammar.now v.items) }
     ensures stops { IfErr result IsOfFile }
     ensures told { IfErr result (ToldOf grammar.now) }
+    ensures no_line { IfErr result IsOfNoLine }
 {
     match tables_of(alloc, grammar) {
         Ok(tables) => Ok(tables),

@@ -1,7 +1,9 @@
 //! The generated grammar, emitted and run.
 
-ghost use Rattle.std.specs.Prelude.{ℕ, List, Option, Some, IfErr, IfOk};
+ghost use Rattle.std.specs.Prelude.{◌≡◌, ◌++◌, ℕ, List, [], Option, None, Some, IfErr, IfOk, OnOk, length, string_bytes};
 ghost use Rattle.lp_tool.specs.Causes.{IsOfFile};
+ghost use Rattle.lp_tool.specs.LinesTold.{TellsLine};
+ghost use Rattle.lp_tool.specs.Outputs.{IsReport, course_text, first_count, size_text};
 ghost use Rattle.lp_tool.specs.Told.{IsPrepared, Tells};
 ghost use Rattle.lp_tool.specs.declared.command.Command.{Command};
 
@@ -11,6 +13,7 @@ use crate::tool::{Prepared, emitted};
 use lp_driver::RunError;
 use lp_plain::{make_items, make_text};
 use lp_program::read_program;
+use lp_repr::StartStates;
 use lp_run::{Run, run_program};
 use lp_write::Options;
 use std::alloc::{AllocError, Global};
@@ -23,16 +26,14 @@ const BUDGET: u64 = 1_000_000;
 pub fn prepare_generated(alloc: Global, levels: u8) -> Result<Prepared, Stop>
     ensures stops { IfErr result (λ stop. IsOfFile stop.status) }
     ensures told { IfErr result (λ stop. Tells stop.grammar stop.status) }
+    ensures line { (left : Option (List ℕ)) → IfErr result (λ stop. TellsLine left stop.grammar stop.status) }
     ensures prepared { (left : Option (List ℕ)) → IfOk result (IsPrepared (Some (Command.Make levels)) left) }
 {
     let Ok(source) = make_text(alloc, u32::from(levels)) else {
         return Err(Stop::bare(Status::Memory));
     };
     let file = file_of(alloc, source.as_str().as_bytes())?;
-    let states = match file.tables.first() {
-        Some(table) => table.states.as_slice().len(),
-        None => 0,
-    };
+    let states = state_count(file.tables.as_slice());
     let text = match emitted(alloc, &file, &Options::default()) {
         Ok(text) => text,
         Err(status) => return Err(Stop::with(status, file.plain)),
@@ -49,11 +50,21 @@ pub fn prepare_generated(alloc: Global, levels: u8) -> Result<Prepared, Stop>
     })
 }
 
-/// The lines that tell of the run of a generated text.
-fn report(alloc: Global, text: &str, states: usize, levels: u8) -> Result<String, AllocError> {
-    let mut output = format!(in alloc; "states {states}\n")?;
-    let length = text.len();
-    write!(output, "text {length}\n")?;
+/// The number of the states of the first start.
+fn state_count(tables: &[StartStates]) -> usize
+    ensures { result ≡ first_count tables.now }
+{
+    match tables.first() {
+        Some(table) => table.states.as_slice().len(),
+        None => 0,
+    }
+}
+
+/// The lines that tell of a generated text and of its run.
+fn report(alloc: Global, text: &str, states: usize, levels: u8) -> Result<String, AllocError>
+    ensures { IfOk result (λ output. IsReport states (length text.now) (string_bytes output)) }
+{
+    let mut output = sizes(alloc, states, text.len())?;
     let program = match read_program(alloc, text) {
         Ok(program) => program,
         Err(_) => return Err(AllocError),
@@ -61,15 +72,35 @@ fn report(alloc: Global, text: &str, states: usize, levels: u8) -> Result<String
     let items = make_items(alloc, u32::from(levels))?;
     match run_program(alloc, &program, "E0", items.as_slice(), &[], &[], BUDGET) {
         Ok(run) => write_run(&mut output, &run)?,
-        Err(RunError::Stuck { steps }) => write!(output, "stuck\nsteps {steps}\n")?,
+        Err(RunError::Stuck { steps }) => write_stuck(&mut output, steps)?,
         Err(_) => return Err(AllocError),
     }
     Ok(output)
 }
 
-fn write_run(output: &mut String, run: &Run) -> Result<(), AllocError> {
+/// The number of states, and the length of the text.
+#[tactic(auto, unfolding(crate::specs::Outputs::size_text))]
+fn sizes(alloc: Global, states: usize, length: usize) -> Result<String, AllocError>
+    ensures { IfOk result (λ output. string_bytes output ≡ size_text states length) }
+{
+    format!(in alloc; "states {states}\ntext {length}\n")
+}
+
+/// Appends what is told of a run that ended.
+#[tactic(auto, unfolding(crate::specs::Outputs::course_text))]
+fn write_run(output: &mut String, run: &Run) -> Result<(), AllocError>
+    ensures { OnOk result (string_bytes output.new ≡ string_bytes output.old ++ course_text run.now.events (Some run.now.outcome) run.now.steps) }
+{
     let calls = run.events.as_slice().len();
     let outcome = &run.outcome;
     let steps = run.steps;
     write!(output, "calls {calls}\n{outcome}\nsteps {steps}\n")
+}
+
+/// Appends what is told of a run that is stuck.
+#[tactic(auto, unfolding(crate::specs::Outputs::course_text))]
+fn write_stuck(output: &mut String, steps: u64) -> Result<(), AllocError>
+    ensures { OnOk result (string_bytes output.new ≡ string_bytes output.old ++ course_text [] None steps) }
+{
+    write!(output, "stuck\nsteps {steps}\n")
 }

@@ -5,14 +5,15 @@ ghost use Rattle.lp_emit.specs.Causes.{MayBeEmitted};
 ghost use Rattle.lp_emit.specs.Texts.{IsEmission};
 ghost use Rattle.lp_tool.specs.Command.{command_of};
 ghost use Rattle.lp_tool.specs.Causes.{Causes, IsOfFile, IsOfWriting, IsStop, StopsReading, Written};
+ghost use Rattle.lp_tool.specs.LinesTold.{IsOfNoLine, TellsLine, ToldOfLines};
 ghost use Rattle.lp_tool.specs.Outputs.{AreLinesOf, IsRunOutput};
-ghost use Rattle.lp_tool.specs.Told.{AreTablesOrNone, IsPrepared, IsRefusal, SaysNothing, Tells, ToldOf, Wrote};
+ghost use Rattle.lp_tool.specs.Told.{AreTablesOrNone, IsPrepared, IsRefusal, Tells, ToldOf, Wrote};
 
 use crate::command::{Command, read_words};
 use crate::file::{File, Stop, file_of};
 use crate::generated::prepare_generated;
 use crate::status::Status;
-use crate::text_run::{TextRunFault, run_text};
+use crate::text_run::run_text;
 use lp_emit::{EmitError, emitted_text};
 use lp_plain::{LineFault, PlainGrammar, ReadError, TokenLine, read_all, read_token_lines};
 use lp_repr::repr::Grammar;
@@ -54,6 +55,7 @@ pub fn run_tool<S: Source, K: Sink>(
     ensures usage { command_of words.now ≡ None → result.status ≡ Status.Usage }
     ensures causes { Causes words.now (S.left source.old) (S.faults source.old) (S.faults source.new) result.status }
     ensures told { Tells result.grammar result.status }
+    ensures line { TellsLine (S.left source.old) result.grammar result.status }
     ensures wrote { Wrote (command_of words.now) (S.left source.old) result.grammar result.tables result.text_len (K.told sink.old) (K.told sink.new) result.status }
     ensures nothing { IsStop result.status → (result.tables ≡ []) × (result.text_len ≡ 0) }
 {
@@ -100,6 +102,7 @@ fn prepare<S: Source>(alloc: Global, words: &[Text], source: &mut S) -> Result<P
     ensures stops { IfErr result (λ stop. IsStop stop.status) }
     ensures goes { OnOk result (command_of words.now ≢ None) }
     ensures told { IfErr result (λ stop. Tells stop.grammar stop.status) }
+    ensures line { IfErr result (λ stop. TellsLine (S.left source.old) stop.grammar stop.status) }
     ensures prepared { IfOk result (IsPrepared (command_of words.now) (S.left source.old)) }
 {
     match read_words(words) {
@@ -121,6 +124,7 @@ fn taken<S: Source>(alloc: Global, source: &mut S) -> Result<Vec<u8>, Stop>
     ensures bytes { IfOk result (λ v. (bytes : List ℕ) → S.left source.old ≡ Some bytes → v.items ≡ bytes) }
     ensures stops { IfErr result (λ stop. StopsReading (S.left source.old) (S.faults source.old) (S.faults source.new) stop.status) }
     ensures told { IfErr result (λ stop. Tells stop.grammar stop.status) }
+    ensures line { (left : Option (List ℕ)) → IfErr result (λ stop. TellsLine left stop.grammar stop.status) }
 {
     match read_all(alloc, source) {
         Ok(bytes) => Ok(bytes),
@@ -134,6 +138,7 @@ fn taken<S: Source>(alloc: Global, source: &mut S) -> Result<Vec<u8>, Stop>
 fn prepare_emit(alloc: Global, bytes: &[u8], options: Options) -> Result<Prepared, Stop>
     ensures stops { IfErr result (λ stop. IsOfFile stop.status) }
     ensures told { IfErr result (λ stop. Tells stop.grammar stop.status) }
+    ensures line { (left : Option (List ℕ)) → IfErr result (λ stop. TellsLine left stop.grammar stop.status) }
     ensures prepared { IfOk result (IsPrepared (Some (Command.Emit options)) (Some bytes.now)) }
 {
     let file = file_of(alloc, bytes)?;
@@ -152,6 +157,7 @@ fn prepare_emit(alloc: Global, bytes: &[u8], options: Options) -> Result<Prepare
 fn prepare_run(alloc: Global, bytes: &[u8], options: Options) -> Result<Prepared, Stop>
     ensures stops { IfErr result (λ stop. IsOfFile stop.status) }
     ensures told { IfErr result (λ stop. Tells stop.grammar stop.status) }
+    ensures line { IfErr result (λ stop. TellsLine (Some bytes.now) stop.grammar stop.status) }
     ensures prepared { IfOk result (IsPrepared (Some (Command.Run options)) (Some bytes.now)) }
 {
     let file = file_of(alloc, bytes)?;
@@ -170,6 +176,7 @@ fn text_and_runs(alloc: Global, file: &File, options: &Options) -> Result<(usize
     requires { AreTablesOrNone file.now.lowered file.now.tables.items }
     ensures stops { IfErr result IsOfFile }
     ensures told { IfErr result (ToldOf file.now.lowered) }
+    ensures lines { IfErr result (ToldOfLines file.now.lowered file.now.tail.items) }
     ensures emitted { OnOk result (MayBeEmitted file.now.lowered file.now.tables.items) }
     ensures output { IfOk result (λ both. IsRunOutput file.now.lowered file.now.tables.items options.now file.now.tail.items both.0 both.1.items) }
 {
@@ -184,7 +191,8 @@ fn text_and_runs(alloc: Global, file: &File, options: &Options) -> Result<(usize
             Ok(output) => Ok(output),
             Err(AllocError) => Err(Status::Memory),
         },
-        Err(fault) => Err(unrun(fault)),
+        // An emitted text reads, its token lines name its starts, and each parameter has a value.
+        Err(_) => Err(Status::Memory),
     }
 }
 
@@ -193,6 +201,7 @@ pub fn emitted(alloc: Global, file: &File, options: &Options) -> Result<String, 
     requires { AreTablesOrNone file.now.lowered file.now.tables.items }
     ensures stops { IfErr result IsOfFile }
     ensures told { IfErr result (ToldOf file.now.lowered) }
+    ensures no_line { IfErr result IsOfNoLine }
     ensures emitted { OnOk result (MayBeEmitted file.now.lowered file.now.tables.items) }
     ensures text { IfOk result (λ text. IsEmission file.now.lowered file.now.tables.items options.now (string_bytes text)) }
 {
@@ -206,6 +215,7 @@ fn token_lines(alloc: Global, grammar: &Grammar, tail: &[u8]) -> Result<Vec<Toke
     ensures lines { IfOk result (λ lines. AreLinesOf grammar.now tail.now lines.items) }
     ensures stops { IfErr result IsOfFile }
     ensures told { IfErr result (ToldOf grammar.now) }
+    ensures misfit { IfErr result (ToldOfLines grammar.now tail.now) }
 {
     match read_token_lines(alloc, grammar, tail) {
         Ok(lines) => Ok(lines),
@@ -239,23 +249,10 @@ fn joined(text: String, blocks: &[u8]) -> Result<(usize, Vec<u8>), AllocError>
 fn refused(error: EmitError) -> Status
     ensures stops { IsOfFile result }
     ensures refusal { IsRefusal error result }
+    ensures no_line { IsOfNoLine result }
 {
     match error {
         EmitError::Memory => Status::Memory,
         error => Status::Refused(error),
-    }
-}
-
-/// The status that tells of a text without runs. An emitted text reads, and its token lines name
-/// its starts.
-fn unrun(fault: TextRunFault) -> Status
-    ensures stops { IsOfFile result }
-    ensures told { SaysNothing result }
-{
-    match fault {
-        TextRunFault::NoStart { line } => Status::TokenLine { line },
-        TextRunFault::ParameterCount { line } => Status::TokenLine { line },
-        TextRunFault::NoForm { .. } => Status::Memory,
-        TextRunFault::Memory => Status::Memory,
     }
 }
