@@ -9,23 +9,23 @@ use Rattle.lp_tree.specs.declared.tree.Node.{Node}
 use Rattle.lp_tree.specs.declared.tree.Program.{Program}
 use Rattle.lp_build.specs.Built.{over}
 use Rattle.lp_write.specs.declared.rust.Options.{Options}
+use Rattle.lp_actions.specs.ActionFunctions.{action_functions}
 use Rattle.lp_emit.specs.Texts.{IsEmission, text_of}
 use Rattle.lp_emit.specs.Built.{AreModules, IsBuilt, front_lines, token_lines, triple_lines}
 
 pub built :
-    {E : Type 0} (g : Grammar) (states : List StartStates) (result : Result Program E) (modules actions : List Item) (nodes : List Node) →
+    {E : Type 0} (g : Grammar) (states : List StartStates) (result : Result Program E) (modules : List Item) (nodes : List Node) →
     AreModules g states (length g.start_nonterminals.entries) modules →
-    flat_map items nodes ≡ ((((front_lines g ++ modules) ++ token_lines g g.intern_token) ++ actions) ++ triple_lines g) →
+    flat_map items nodes ≡ ((((front_lines g ++ modules) ++ token_lines g g.intern_token) ++ action_functions g) ++ triple_lines g) →
     IfOk result (λ p. p.prefix ≡ g.prefix) → IfOk result (λ p. program_items p ≡ over part.Program [] (flat_map items nodes)) →
     IfOk result (IsBuilt g states)
-built g states (Ok p) modules actions nodes each lines prefix parts = record {
+built g states (Ok p) modules nodes each lines prefix parts = record {
   prefix = prefix;
   modules = modules;
   each = each;
-  actions = actions;
   parts = parts ∙ ap (over part.Program []) lines;
 }
-built g states (Err e) modules actions nodes each lines prefix parts = prefix
+built g states (Err e) modules nodes each lines prefix parts = prefix
 
 -- lists that are put behind one another, from none
 pub behind :

@@ -1,5 +1,5 @@
 -- The program that a grammar and its states determine.
-use Rattle.std.specs.Prelude.{◌≡◌, ℕ, zero, suc, List, [], ◌∷◌, ◌++◌, length, map, slice_get, string_bytes, codes, Option, Some, None}
+use Rattle.std.specs.Prelude.{◌≡◌, ℕ, zero, suc, List, [], ◌∷◌, ◌++◌, length, map, slice_get, codes, Option, Some, None}
 use Rattle.std.specs.List.{flat_map, join_by}
 use Rattle.lp_form.specs.declared.part.Part.TheVariants as part
 use Rattle.lp_repr.specs.Escapes.{escaped_text}
@@ -23,9 +23,9 @@ use Rattle.lp_build.specs.declared.frame.InternEntry.{InternEntry}
 use Rattle.lp_build.specs.declared.frame.Triples.{Triples}
 use Rattle.lp_build.specs.declared.frame.Triples.TheVariants.{Located, Plain}
 use Rattle.lp_parts.specs.Texts.{each_with_comma, error_text, location_text, token_text}
-use Rattle.lp_parts.specs.declared.texts.TypeTexts.{TypeTexts}
 use Rattle.lp_table.specs.BuiltTable.{built_table_at}
 use Rattle.lp_table.specs.FrameLines.{inner_uses}
+use Rattle.lp_actions.specs.ActionFunctions.{action_functions}
 use Rattle.lp_emit.specs.Visibilities.{visibility_at, widest}
 
 -- the attributes and the uses, each a line, and the uses that each program has
@@ -87,12 +87,6 @@ abbrev pub joined_clauses : List WhereClause → Option (List ℕ)
 joined_clauses [] = None
 joined_clauses (c ∷ cs) = Some (join_by clause_text (codes ",") (c ∷ cs))
 
--- these texts are those of a grammar's types
-pub record AreTypesOf (g : Grammar) (t : TypeTexts) : Type 0 where
-  pub location : string_bytes t.location ≡ location_text g
-  pub token : string_bytes t.token ≡ token_text g
-  pub error : string_bytes t.error ≡ error_text g
-
 -- what the two implementations are for
 abbrev pub spaced_triple : Grammar → List ℕ
 spaced_triple g = location_text g ++ (codes ", " ++ (token_text g ++ (codes ", " ++ location_text g)))
@@ -117,12 +111,11 @@ triple_lines_by g clauses triples =
 abbrev pub triple_lines : Grammar → List Item
 triple_lines g = triple_lines_by g (joined_clauses g.where_clauses) (implementations g g.types.loc)
 
--- the program of a grammar and its states; the functions of its actions are some list of parts
+-- the program of a grammar and its states
 pub record IsBuilt (g : Grammar) (states : List StartStates) (program : Program) : Type 0 where
   pub prefix : program.prefix ≡ g.prefix
   pub modules : List Item
   pub each : AreModules g states (length g.start_nonterminals.entries) modules
-  pub actions : List Item
   pub parts :
       program_items program
-      ≡ over part.Program [] ((((front_lines g ++ modules) ++ token_lines g g.intern_token) ++ actions) ++ triple_lines g)
+      ≡ over part.Program [] ((((front_lines g ++ modules) ++ token_lines g g.intern_token) ++ action_functions g) ++ triple_lines g)

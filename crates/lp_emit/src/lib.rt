@@ -1,7 +1,6 @@
-//! Action functions, the frame around the modules, and the emission of a whole text.
+//! The frame around the modules, and the emission of a whole text.
 #![tactic(auto)]
 
-pub mod action;
 pub mod checks;
 pub mod clash;
 pub mod emit;

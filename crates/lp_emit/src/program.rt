@@ -4,15 +4,16 @@ ghost use Rattle.std.specs.Prelude.{◌≡◌, ◌<◌, ◌++◌, length, map, c
 ghost use Rattle.std.specs.BTreeMap.{btree_map_len};
 ghost use Rattle.std.specs.List.{flat_map};
 ghost use Rattle.std.specs.Map.Iter.{deref_pair};
-ghost use Rattle.lp_emit.specs.Built.{AreFollowed, AreModules, AreTypesOf, IsBuilt, IsModule, IsModuleWithName, attribute_lines, front_lines, implementations, joined_clauses, reexport_lines, token_lines, triple_lines, use_lines};
+ghost use Rattle.lp_actions.specs.Parameters.{AreTypesOf};
+ghost use Rattle.lp_emit.specs.Built.{AreFollowed, AreModules, IsBuilt, IsModule, IsModuleWithName, attribute_lines, front_lines, implementations, joined_clauses, reexport_lines, token_lines, triple_lines, use_lines};
 ghost use Rattle.lp_parts.specs.Entries.{EntriesFit};
 ghost use Rattle.lp_repr.specs.ShownTypes.{clause_text};
 ghost use Rattle.lp_tree.specs.ProgramTree.{items};
 
-use crate::action::action_functions;
 use crate::fits::first_unfit;
 use crate::intern_token;
 use crate::visibility::{visibility_of, widest_visibility};
+use lp_actions::action_functions;
 use lp_ascent::build_ascent_module;
 use lp_build::{Triples, attribute, program, reexport, standard_uses, to_triple, use_line};
 use lp_parts::texts::{TypeTexts, each_with_comma};
