@@ -1,7 +1,8 @@
 //! The back end of recursive ascent.
 
-ghost use Rattle.std.specs.Prelude.{All};
+ghost use Rattle.std.specs.Prelude.{◌≡◌, All};
 ghost use Rattle.lp_parts.specs.Entries.{EntriesFit};
+ghost use Rattle.lp_ascent.specs.BuiltAscent.{built_ascent_at};
 
 use crate::ascent_module::build_ascent_module;
 use lp_repr::Lr1State;
@@ -17,8 +18,7 @@ pub struct AscentBackEnd;
 impl BackEnd for AscentBackEnd {
     ghost Accepts = { λ grammar states. All EntriesFit states };
 
-    // What the parts of the module are isn't stated yet.
-    ghost IsBuilt = { λ grammar states start parts. Unit {0} };
+    ghost IsBuilt = { λ grammar states start parts. parts ≡ built_ascent_at grammar states start };
 
     fn build_module<'t>(
         &self,
