@@ -23,6 +23,7 @@ use Rattle.lp_build.specs.declared.frame.InternEntry.{InternEntry}
 use Rattle.lp_build.specs.declared.frame.Triples.{Triples}
 use Rattle.lp_build.specs.declared.frame.Triples.TheVariants.{Located, Plain}
 use Rattle.lp_parts.specs.Texts.{each_with_comma, error_text, location_text, token_text}
+use Rattle.lp_ascent.specs.BuiltAscent.{built_ascent_at}
 use Rattle.lp_table.specs.BuiltTable.{built_table_at}
 use Rattle.lp_table.specs.FrameLines.{inner_uses}
 use Rattle.lp_actions.specs.ActionFunctions.{action_functions}
@@ -40,7 +41,7 @@ front_lines g = (attribute_lines g.module_attributes ++ use_lines g.uses) ++ lea
 
 -- these lines are the module of a start, by the code that is asked for
 abbrev pub IsModuleBy : LrCodeGeneration → Grammar → ℕ → List Lr1State → List Item → Type 0
-IsModuleBy RecursiveAscent g start states lines = Unit {0}
+IsModuleBy RecursiveAscent g start states lines = lines ≡ built_ascent_at g states start
 IsModuleBy _ g start states lines = lines ≡ built_table_at g states start
 
 abbrev pub IsModule : Grammar → ℕ → List Lr1State → List Item → Type 0
