@@ -1,14 +1,25 @@
-//! Recursive ascent: reductions, errors and trials.
+//! Recursive ascent: reductions and errors.
+
+ghost use Rattle.std.specs.Prelude.{◌≡◌, [], ◌∷◌, Some, length, IfOk, OnOk};
+ghost use Rattle.lp_view.specs.PartLists.{listed};
+ghost use Rattle.lp_maker.specs.Constructs.{call_function};
+ghost use Rattle.lp_maker.specs.Making.{making, with_function};
+ghost use Rattle.lp_maker.specs.Slots.{after_slots};
+ghost use Rattle.lp_bodies.specs.Lines.{lines_of};
+ghost use Rattle.lp_bodies.specs.Reductions.{work_of, done_of};
+ghost use Rattle.lp_ascent_bodies.specs.AscentReductions.{top_slot, inner_function, bottom, with_bottom, lookahead_start, with_lookahead_start, bottom_line, ascent_call, ascent_value, ascent_names, ascent_call_line, is_bottom, is_ascent_call, quiet_line, ascent_line, ascent_lines, return_row, returns, made_value, with_made, ascent_reduce};
 
 use crate::ascent::{Lines, give_made, take_line};
-use lp_bodies::reduce::{answer_if, part_closure, production_of, span_at, span_popped, state_at};
-use lp_bodies::table::{filtered, keeping};
-use lp_core::{Expr, Function, Join, Leaf, Op, StateType, Tag, Test};
+pub use crate::ascent_trial::{ascent_accepts, ascent_expected, ascent_simulate};
+use lp_bodies::lines::push_let;
+use lp_bodies::reduce::{part_closure, span_at, span_popped};
+use lp_bodies::source::{default_location, function};
+use lp_core::{Expr, Join, Op, Tag};
 use lp_form::Part;
-use lp_maker::forms::{Form, first};
-use lp_maker::maker::{Maker, here};
+use lp_maker::forms::{Form, is_a};
+use lp_maker::maker::Maker;
 use lp_maker::scope::Scope;
-use lp_maker::texts::{number, numbered, state_type, wide_number};
+use lp_maker::texts::numbered;
 use std::alloc::AllocError;
 
 /// The lines of a reduction, in a block of their own.
@@ -17,294 +28,251 @@ pub fn ascent_reduce<'p>(
     scope: &mut Scope,
     lines: Lines,
     form: Form<'p>,
-) -> Result<Expr, AllocError> {
+) -> Result<Expr, AllocError>
+    ensures { IfOk result (λ v. done_of v scope.new (making maker.new) ≡ ascent_reduce lines (making maker.old) scope.old (listed form.entry)) }
+{
     let mark = scope.open();
-    let mut parts = Vec::new(maker.alloc);
-    let mut returns = false;
-    for line in form.parts() {
-        match line.part() {
-            Part::TakeLine => take_line(maker, scope, line, &mut parts)?,
-            Part::AscentPopped => span_popped(maker, scope, line, &mut parts)?,
-            Part::AscentFixed | Part::AscentOptional | Part::AscentBottom => {
-                let start = lookahead_start(maker, scope, lines, line)?;
-                span_at(maker, scope, start, &mut parts)?;
-            }
-            Part::AscentCall | Part::AscentCallFallible => {
-                let value = ascent_call(maker, scope, line)?;
-                let slot = scope.bind(maker.alloc, "~nt")?;
-                parts.push(maker.write(slot, value)?)?;
-            }
-            Part::ReturnLine => returns = true,
-            _ => {}
-        }
-    }
+    let mut parts = ascent_lines(maker, scope, lines, form)?;
     made_lines(maker, scope, lines, form, &mut parts)?;
-    if returns {
-        parts.push(give_made(maker, lines)?)?;
-    }
     scope.close(mark);
     Ok(Expr::block(parts))
 }
 
-// `let ~nt = ~Nonterminal::..((~start, ~nt, ~end)); ~result = (~lookahead, ~nt);`.
-fn made_lines<'p>(
+fn ascent_lines<'p>(
     maker: &mut Maker<'p>,
     scope: &mut Scope,
     lines: Lines,
     form: Form<'p>,
+) -> Result<Vec<Expr>, AllocError>
+    ensures { IfOk result (λ parts. work_of (lines_of scope.new parts.items) (making maker.new) ≡ ascent_lines lines (making maker.old) scope.old (listed form.entry)) }
+{
+    let mut parts = Vec::new(maker.alloc);
+    for line in form.parts() {
+        ascent_line(maker, scope, lines, line, &mut parts)?;
+    }
+    Ok(parts)
+}
+
+// A line of a reduction.
+fn ascent_line<'p>(
+    maker: &mut Maker<'p>,
+    scope: &mut Scope,
+    lines: Lines,
+    line: Form<'p>,
     parts: &mut Vec<Expr>,
-) -> Result<(), AllocError> {
+) -> Result<(), AllocError>
+    ensures { OnOk result (work_of (lines_of scope.new parts.new.items) (making maker.new) ≡ ascent_line lines (work_of (lines_of scope.old parts.old.items) (making maker.old)) (listed line.entry)) }
+{
+    if is_bottom(line) {
+        bottom_line(maker, scope, lines, line, parts)
+    } else {
+        quiet_line(maker, scope, line, parts)
+    }
+}
+
+fn is_bottom(line: Form<'_>) -> bool
+    ensures { result ≡ is_bottom (listed line.entry) }
+{
+    is_a(Part::AscentFixed, line)
+        || (is_a(Part::AscentOptional, line) || is_a(Part::AscentBottom, line))
+}
+
+fn is_ascent_call(line: Form<'_>) -> bool
+    ensures { result ≡ is_ascent_call (listed line.entry) }
+{
+    is_a(Part::AscentCall, line) || is_a(Part::AscentCallFallible, line)
+}
+
+// A line that makes nothing but lines.
+fn quiet_line<'p>(
+    maker: &Maker<'p>,
+    scope: &mut Scope,
+    line: Form<'p>,
+    parts: &mut Vec<Expr>,
+) -> Result<(), AllocError>
+    ensures { OnOk result (lines_of scope.new parts.new.items ≡ quiet_line (making maker.now) (listed line.entry) (lines_of scope.old parts.old.items)) }
+{
+    if is_a(Part::TakeLine, line) {
+        take_line(maker, scope, line, parts)
+    } else if is_a(Part::AscentPopped, line) {
+        span_popped(maker, scope, line, parts)
+    } else if is_ascent_call(line) {
+        ascent_call_line(maker, scope, line, parts)
+    } else {
+        Ok(())
+    }
+}
+
+/// Whether the lines end with a return.
+pub fn returns(form: Form<'_>) -> bool
+    ensures { result ≡ returns (listed form.entry) }
+{
+    let mut found = false;
+    for line in form.parts() {
+        found = return_row(found, line);
+    }
+    found
+}
+
+fn return_row(found: bool, line: Form<'_>) -> bool
+    ensures { result ≡ return_row found (listed line.entry) }
+{
+    found || is_a(Part::ReturnLine, line)
+}
+
+// `let ~nt = ~Nonterminal::..((~start, ~nt, ~end)); ~result = (~lookahead, ~nt);`, and the return.
+fn made_lines<'p>(
+    maker: &mut Maker<'p>,
+    scope: &Scope,
+    lines: Lines,
+    form: Form<'p>,
+    parts: &mut Vec<Expr>,
+) -> Result<(), AllocError>
+    ensures { OnOk result (work_of (lines_of scope.now parts.new.items) (making maker.new) ≡ with_made lines (listed form.entry) (work_of (lines_of scope.now parts.old.items) (making maker.old))) }
+{
     let variant = maker.variant(form.hole(0))?;
+    let made = made_value(maker, scope, variant)?;
+    let written = maker.write(lines.made, made)?;
+    parts.push(written)?;
+    if returns(form) {
+        let back = give_made(maker, lines)?;
+        parts.push(back)?;
+        Ok(())
+    } else {
+        Ok(())
+    }
+}
+
+// `(~lookahead, ~Nonterminal::..((~start, ~nt, ~end)))`.
+fn made_value<'p>(maker: &Maker<'p>, scope: &Scope, variant: Tag) -> Result<Expr, AllocError>
+    ensures { IfOk result (λ v. v ≡ made_value variant scope.now) }
+{
     let start = maker.name(scope, "~start");
     let value = maker.name(scope, "~nt");
     let end = maker.name(scope, "~end");
-    let triple = Expr::join(
-        Join::Make(Tag::Tuple),
-        vec![in maker.alloc; start, value, end]?,
-    );
+    let triple = vec![in maker.alloc; start, value, end]?;
+    let triple = Expr::join(Join::Make(Tag::Tuple), triple);
     let symbol = maker.apply(Op::Wrap(variant), triple)?;
-    let made = maker.pair(
+    maker.pair(
         Join::Make(Tag::Tuple),
         maker.name(scope, "~lookahead"),
         symbol,
-    )?;
-    parts.push(maker.write(lines.made, made)?)?;
-    Ok(())
+    )
 }
 
-// The lookahead's start, else the end of the top slot, else the default.
+// The lookahead's start, else the end of the top slot, else the default, as both ends of the span.
+fn bottom_line<'p>(
+    maker: &mut Maker<'p>,
+    scope: &mut Scope,
+    lines: Lines,
+    line: Form<'p>,
+    parts: &mut Vec<Expr>,
+) -> Result<(), AllocError>
+    ensures lines { OnOk result (lines_of scope.new parts.new.items ≡ bottom_line (making maker.old) lines (listed line.entry) (lines_of scope.old parts.old.items)) }
+    ensures made { OnOk result (making maker.new ≡ with_lookahead_start (listed line.entry) (making maker.old)) }
+{
+    let start = lookahead_start(maker, scope, lines, line)?;
+    span_at(maker, scope, start, parts)
+}
+
 fn lookahead_start<'p>(
     maker: &mut Maker<'p>,
     scope: &mut Scope,
     lines: Lines,
     line: Form<'p>,
-) -> Result<Expr, AllocError> {
+) -> Result<Expr, AllocError>
+    ensures value { IfOk result (λ v. v ≡ lookahead_start (making maker.old) lines (listed line.entry) scope.old) }
+    ensures names { OnOk result (scope.new ≡ after_slots 1 scope.old) }
+    ensures made { OnOk result (making maker.new ≡ with_lookahead_start (listed line.entry) (making maker.old)) }
+{
     let start = part_closure(maker, 0)?;
     let slot = scope.fresh();
     let args = vec![in maker.alloc; Expr::take(slot)]?;
     let some = Expr::call(start, args);
-    let none = match line.part() {
-        Part::AscentFixed => {
-            let last = part_closure(maker, 2)?;
-            Expr::call(last, vec![in maker.alloc; top_slot(maker, scope, line)?]?)
-        }
-        Part::AscentOptional => {
-            let inside = maker.apply(Op::ReadIn, Expr::read(0))?;
-            let body = maker.apply(Op::Part(2), inside)?;
-            let last = maker.closure(Function {
-                params: 1,
-                slots: 0,
-                body,
-            })?;
-            Expr::call(last, vec![in maker.alloc; top_slot(maker, scope, line)?]?)
-        }
-        _ => Expr::plain(Leaf::DefaultLocation),
-    };
+    let none = bottom(maker, scope, line)?;
     maker.on_option(Expr::read(lines.lookahead), slot, none, some)
 }
 
-fn top_slot<'p>(maker: &Maker<'p>, scope: &Scope, line: Form<'p>) -> Result<Expr, AllocError> {
+// Where the span begins without a lookahead: at the end of the top slot, or at the default.
+fn bottom<'p>(maker: &mut Maker<'p>, scope: &Scope, line: Form<'p>) -> Result<Expr, AllocError>
+    ensures value { IfOk result (λ v. v ≡ bottom (making maker.old) (listed line.entry) scope.now) }
+    ensures made { OnOk result (making maker.new ≡ with_bottom (listed line.entry) (making maker.old)) }
+{
+    if is_a(Part::AscentFixed, line) {
+        let last = part_closure(maker, 2)?;
+        end_of_top(maker, scope, line, last)
+    } else if is_a(Part::AscentOptional, line) {
+        let last = inner_closure(maker)?;
+        end_of_top(maker, scope, line, last)
+    } else {
+        Ok(default_location())
+    }
+}
+
+// `|x| x.as_ref().unwrap().2`.
+fn inner_closure<'p>(maker: &mut Maker<'p>) -> Result<usize, AllocError>
+    ensures number { IfOk result (λ n. n ≡ length (making maker.old).functions) }
+    ensures made { OnOk result (making maker.new ≡ with_function (Some inner_function) (making maker.old)) }
+{
+    let inside = maker.apply(Op::ReadIn, Expr::read(0))?;
+    let body = maker.apply(Op::Part(2), inside)?;
+    maker.closure(function(1, 0, body))
+}
+
+fn end_of_top<'p>(
+    maker: &Maker<'p>,
+    scope: &Scope,
+    line: Form<'p>,
+    last: usize,
+) -> Result<Expr, AllocError>
+    ensures { IfOk result (λ v. v ≡ call_function last (top_slot (listed line.entry) scope.now ∷ [])) }
+{
+    let top = top_slot(maker, scope, line)?;
+    Ok(Expr::call(last, vec![in maker.alloc; top]?))
+}
+
+/// What the name of the line's number holds.
+pub fn top_slot<'p>(maker: &Maker<'p>, scope: &Scope, line: Form<'p>) -> Result<Expr, AllocError>
+    ensures { IfOk result (λ v. v ≡ top_slot (listed line.entry) scope.now) }
+{
     let name = numbered(maker.alloc, "~sym", line.hole(0))?;
     Ok(maker.name(scope, name.as_str()))
 }
 
-fn ascent_call<'p>(
+// `let ~nt = ..;`.
+fn ascent_call_line<'p>(
     maker: &Maker<'p>,
     scope: &mut Scope,
     line: Form<'p>,
-) -> Result<Expr, AllocError> {
+    parts: &mut Vec<Expr>,
+) -> Result<(), AllocError>
+    ensures { OnOk result (lines_of scope.new parts.new.items ≡ ascent_call_line (making maker.now) (listed line.entry) (lines_of scope.old parts.old.items)) }
+{
+    let value = ascent_value(maker, scope, line)?;
+    push_let(maker, scope, "~nt", "", value, parts)?;
+    Ok(())
+}
+
+fn ascent_value<'p>(
+    maker: &Maker<'p>,
+    scope: &mut Scope,
+    line: Form<'p>,
+) -> Result<Expr, AllocError>
+    ensures value { IfOk result (λ v. v ≡ ascent_value (making maker.now) (listed line.entry) scope.old) }
+    ensures names { OnOk result (scope.new ≡ ascent_names (listed line.entry) scope.old) }
+{
+    let call = ascent_call(maker, scope, line)?;
+    if is_a(Part::AscentCall, line) {
+        Ok(call)
+    } else {
+        maker.tried(scope, call)
+    }
+}
+
+fn ascent_call<'p>(maker: &Maker<'p>, scope: &Scope, line: Form<'p>) -> Result<Expr, AllocError>
+    ensures { IfOk result (λ v. v ≡ ascent_call (making maker.now) (listed line.entry) scope.now) }
+{
     let mut args = Vec::new(maker.alloc);
     maker.arguments(scope, line.hole(2), &mut args)?;
-    let call = maker.call("super::action", line.hole(0), args)?;
-    if line.part() == Part::AscentCall {
-        return Ok(call);
-    }
-    maker.tried(scope, call)
-}
-
-/// The error of a state: the token that is there, or the end, with the expected list.
-pub fn expected_error<'p>(
-    maker: &mut Maker<'p>,
-    scope: &mut Scope,
-    form: Form<'p>,
-) -> Result<Expr, AllocError> {
-    let mark = scope.open();
-    let args = vec![in maker.alloc; maker.name(scope, "~states")]?;
-    let call = maker.call("expected", "", args)?;
-    let expected = scope.bind(maker.alloc, "~expected")?;
-    let listed = maker.write(expected, call)?;
-    let token = scope.fresh();
-    let some = maker.pair(
-        Join::UnrecognizedToken,
-        Expr::take(token),
-        Expr::take(expected),
-    )?;
-    let location = match first(form) {
-        None => Expr::stuck(),
-        Some(lines) => location(maker, scope, lines)?,
-    };
-    let none = maker.pair(Join::UnrecognizedEof, location, Expr::take(expected))?;
-    let lookahead = maker.name(scope, "~lookahead");
-    let error = maker.on_option(lookahead, token, none, some)?;
-    let bad = maker.apply(Op::Wrap(Tag::Failure), error)?;
-    let back = maker.give_back(bad)?;
-    scope.close(mark);
-    Ok(Expr::block(vec![in maker.alloc; listed, back]?))
-}
-
-fn location<'p>(maker: &mut Maker<'p>, scope: &Scope, form: Form<'p>) -> Result<Expr, AllocError> {
-    match form.part() {
-        Part::LocationFixed => maker.apply(Op::Part(2), top_slot(maker, scope, form)?),
-        Part::LocationChain => chain(maker, scope, form),
-        _ => Ok(Expr::plain(Leaf::DefaultLocation)),
-    }
-}
-
-// The end of the first optional slot that holds something, from the top; each closure of the chain
-// is handed the slots that are left.
-fn chain<'p>(maker: &mut Maker<'p>, scope: &Scope, form: Form<'p>) -> Result<Expr, AllocError> {
-    let end = part_closure(maker, 2)?;
-    let mut next = maker.closure(Function {
-        params: 0,
-        slots: 0,
-        body: Expr::plain(Leaf::DefaultLocation),
-    })?;
-    for left in 1..part_count(form) {
-        let body = end_or(
-            maker,
-            end,
-            next,
-            Expr::read(0),
-            Expr::read(0),
-            slots(maker, left)?,
-        )?;
-        next = maker.closure(Function {
-            params: left,
-            slots: 0,
-            body,
-        })?;
-    }
-    let mut rows = form.parts();
-    let (tested, shown) = match rows.next() {
-        None => (Expr::stuck(), Expr::stuck()),
-        Some(row) => (top_slot(maker, scope, row)?, top_slot(maker, scope, row)?),
-    };
-    let mut others = Vec::new(maker.alloc);
-    for row in rows {
-        others.push(top_slot(maker, scope, row)?)?;
-    }
-    end_or(maker, end, next, tested, shown, others)
-}
-
-// How many parts stand below a form.
-fn part_count(form: Form<'_>) -> usize {
-    let mut count = 0usize;
-    for _part in form.parts() {
-        count = count.saturating_add(1);
-    }
-    count
-}
-
-// The slots after the first of so many.
-fn slots<'p>(maker: &Maker<'p>, count: usize) -> Result<Vec<Expr>, AllocError> {
-    let mut all = Vec::new(maker.alloc);
-    for slot in 1..count {
-        all.push(Expr::read(slot))?;
-    }
-    Ok(all)
-}
-
-// The end of what a cell holds, else what a closure of the other cells answers.
-fn end_or<'p>(
-    maker: &Maker<'p>,
-    end: usize,
-    next: usize,
-    tested: Expr,
-    shown: Expr,
-    others: Vec<Expr>,
-) -> Result<Expr, AllocError> {
-    let test = maker.apply(Op::IsEmpty, tested)?;
-    let inside = maker.apply(Op::ReadIn, shown)?;
-    let located = Expr::call(end, vec![in maker.alloc; inside]?);
-    Expr::choose(maker.alloc, test, Expr::call(next, others), located)
-}
-
-/// What a reduction would do.
-pub fn ascent_simulate<'p>(maker: &mut Maker<'p>, form: Form<'p>) -> Result<Function, AllocError> {
-    let mut cases = Vec::new(maker.alloc);
-    let mut bodies = Vec::new(maker.alloc);
-    for row in form.parts() {
-        if let Some(n) = wide_number(row.hole(0)) {
-            cases.push(here(Test::Between(n, n), bodies.len()))?;
-        }
-        bodies.push(if row.part() == Part::AscentAccept {
-            maker.absent()
-        } else {
-            let pop = maker.index(number(row.hole(1)));
-            let nonterminal = maker.index(number(row.hole(2)));
-            let pair = maker.pair(Join::Make(Tag::Tuple), pop, nonterminal)?;
-            maker.apply(Op::Wrap(Tag::Present), pair)?
-        })?;
-    }
-    bodies.push(Expr::stuck())?;
-    Ok(Function {
-        params: 1,
-        slots: 1,
-        body: Expr::select(maker.alloc, Expr::read(0), 1, cases, bodies)?,
-    })
-}
-
-/// The terminals that a stack of states accepts.
-pub fn ascent_expected<'p>(maker: &mut Maker<'p>) -> Result<Function, AllocError> {
-    let args = vec![in maker.alloc; Expr::read(2), Expr::read(0)]?;
-    let closure = keeping(maker, args)?;
-    Ok(Function {
-        params: 1,
-        slots: 0,
-        body: filtered(maker, closure, 0)?,
-    })
-}
-
-/// Whether a stack of states accepts a terminal: the states stand in slot 0, the terminal in 1.
-pub fn ascent_accepts<'p>(maker: &mut Maker<'p>, form: Form<'p>) -> Result<Function, AllocError> {
-    let kind = state_type(form.hole(0));
-    let copy = maker.apply(Op::CopyStates, Expr::read(0))?;
-    let copied = maker.write(2, copy)?;
-    let turn = trial_turn(maker, kind)?;
-    let turns = Expr::repeat(maker.alloc, turn)?;
-    Ok(Function {
-        params: 2,
-        slots: 7,
-        body: Expr::block(vec![in maker.alloc; copied, turns]?),
-    })
-}
-
-// The last state of the list in slot 2.
-fn last_state<'p>(maker: &Maker<'p>, kind: Option<StateType>) -> Result<Expr, AllocError> {
-    let length = maker.apply(Op::Length, Expr::read(2))?;
-    let last = maker.apply(Op::Predecessor, length)?;
-    state_at(maker, kind, 2, last)
-}
-
-fn trial_turn<'p>(maker: &mut Maker<'p>, kind: Option<StateType>) -> Result<Expr, AllocError> {
-    let mut parts = Vec::new(maker.alloc);
-    parts.push(maker.write(3, last_state(maker, kind)?)?)?;
-    let args = vec![in maker.alloc; Expr::read(3), Expr::read(1)]?;
-    let entry = maker.call("action", "", args)?;
-    parts.push(maker.write(4, entry)?)?;
-    parts.push(answer_if(maker, Op::IsZero, 4, false)?)?;
-    parts.push(answer_if(maker, Op::IsPositive, 4, true)?)?;
-    let args = vec![in maker.alloc; production_of(maker, 4)?]?;
-    let simulated = maker.call("simulate", "", args)?;
-    let back = maker.give_back(Expr::plain(Leaf::Bool(true)))?;
-    let open = maker.apply(Op::Parts(6, 2), Expr::take(5))?;
-    parts.push(maker.on_option(simulated, 5, back, open)?)?;
-    let length = maker.apply(Op::Length, Expr::read(2))?;
-    let less = maker.pair(Join::Subtract, length, Expr::read(6))?;
-    parts.push(maker.pair(Join::Truncate, Expr::read(2), less)?)?;
-    parts.push(maker.write(3, last_state(maker, kind)?)?)?;
-    let args = vec![in maker.alloc; Expr::read(3), Expr::read(7)]?;
-    let next = maker.call("goto", "", args)?;
-    parts.push(maker.pair(Join::Push, Expr::read(2), next)?)?;
-    Ok(Expr::block(parts))
+    maker.call("super::action", line.hole(0), args)
 }

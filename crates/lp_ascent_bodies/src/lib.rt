@@ -2,4 +2,9 @@
 #![tactic(auto)]
 
 pub mod ascent;
+pub mod ascent_arms;
+pub mod ascent_error;
+pub mod ascent_goto;
 pub mod ascent_reduce;
+pub mod ascent_state;
+pub mod ascent_trial;
