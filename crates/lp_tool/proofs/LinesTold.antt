@@ -1,5 +1,5 @@
 -- What is told of token lines.
-use Rattle.std.proofs.Common.{◌≡◌, ℕ, List, Option, Some, subst, refl}
+use Rattle.std.proofs.Common.{◌≡◌, ℕ, List, Option, Some, Result, Ok, Err, IfErr, subst, refl}
 use Rattle.lp_lines.specs.File.{IsCutFile}
 use Rattle.lp_plain.specs.Front.{LowersTo}
 use Rattle.lp_repr.specs.declared.repr.Grammar.{Grammar}
@@ -8,8 +8,10 @@ use Rattle.lp_tool.specs.Causes.{IsOfWriting}
 use Rattle.lp_tool.specs.LinesTold.{IsOfNoLine, TellsLine, ToldOfLines}
 use Rattle.lp_tool.specs.Outputs.{IsTailIn}
 use Rattle.lp_tool.specs.Told.{Holds}
+use Rattle.lp_tool.specs.declared.file.Stop.{Stop}
 use Rattle.lp_tool.specs.declared.status.Status.{Status}
 use Rattle.lp_tool.specs.declared.status.Status.TheVariants as status
+use Rattle.lp_tool.specs.declared.tool.Prepared.{Prepared}
 
 -- a stop with the plain grammar, over the tail of its file
 pub told_line : (plain : PlainGrammar) (g : Grammar) (left : Option (List ℕ)) (tail : List ℕ) (s : Status) (answered : Option PlainGrammar) → LowersTo plain g → IsTailIn left tail → ToldOfLines g tail s → Holds plain s answered → TellsLine left answered s
@@ -80,3 +82,12 @@ line_of_source left bytes answered status.TooLong same t = tt
 line_of_source left bytes answered status.ReadFault same t = tt
 line_of_source left bytes answered status.WriteFault same t = tt
 line_of_source left bytes answered status.Memory same t = tt
+
+-- the same of calls
+pub no_line_told : {A : Type 0} (result : Result A Stop) (left : Option (List ℕ)) → IfErr result (λ stop. IsOfNoLine stop.status) → IfErr result (λ stop. TellsLine left stop.grammar stop.status)
+no_line_told (Ok a) left n = n
+no_line_told (Err stop) left n = no_line left stop.grammar stop.status n
+
+pub told_of_source : (result : Result Prepared Stop) (left : Option (List ℕ)) (bytes : List ℕ) → ((told : List ℕ) → left ≡ Some told → bytes ≡ told) → IfErr result (λ stop. TellsLine (Some bytes) stop.grammar stop.status) → IfErr result (λ stop. TellsLine left stop.grammar stop.status)
+told_of_source (Ok p) left bytes same h = h
+told_of_source (Err stop) left bytes same h = line_of_source left bytes stop.grammar stop.status same h

@@ -68,7 +68,7 @@ course_text events outcome steps = calls_text events outcome ++ (line_text (endi
 
 -- the lines that tell of a text and its tables
 abbrev pub size_text : ℕ → ℕ → List ℕ
-size_text states text_len = line_text (codes "states " ++ decimal states) ++ line_text (codes "text " ++ decimal text_len)
+size_text states text_len = codes "states " ++ (decimal states ++ 10 ∷ (codes "text " ++ (decimal text_len ++ 10 ∷ [])))
 
 -- what is told of a generated text: the number of its states, its length, and a run
 abbrev pub IsReport : ℕ → ℕ → List ℕ → Type 0

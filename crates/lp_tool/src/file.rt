@@ -52,7 +52,6 @@ impl Stop {
         ensures grammar { Holds grammar status result.grammar }
         ensures told { (g : Grammar) → LowersTo grammar g → ToldOf g status → IsOfFile status → Tells result.grammar result.status }
         ensures line { (g : Grammar) → (left : Option (List ℕ)) → (tail : List ℕ) → LowersTo grammar g → IsTailIn left tail → ToldOfLines g tail status → TellsLine left result.grammar result.status }
-        ensures no_line { (left : Option (List ℕ)) → IsOfNoLine status → TellsLine left result.grammar result.status }
     {
         match status {
             Status::Memory => Stop::bare(status),
@@ -69,7 +68,7 @@ pub fn file_of(alloc: Global, bytes: &[u8]) -> Result<File, Stop>
     ensures file { IfOk result (IsFile bytes.now) }
     ensures stops { IfErr result (λ stop. IsOfFile stop.status) }
     ensures told { IfErr result (λ stop. Tells stop.grammar stop.status) }
-    ensures line { (left : Option (List ℕ)) → IfErr result (λ stop. TellsLine left stop.grammar stop.status) }
+    ensures no_line { IfErr result (λ stop. IsOfNoLine stop.status) }
 {
     let (text, tail) = cut_file(bytes);
     let (plain, lowered) = match lowered_of(alloc, text) {
@@ -91,7 +90,7 @@ pub fn file_of(alloc: Global, bytes: &[u8]) -> Result<File, Stop>
 fn unread(fault: BytesFault) -> Stop
     ensures stops { IsOfFile result.status }
     ensures told { Tells result.grammar result.status }
-    ensures line { (left : Option (List ℕ)) → TellsLine left result.grammar result.status }
+    ensures no_line { IsOfNoLine result.status }
 {
     match fault {
         BytesFault::Grammar { place } => Stop::bare(Status::Grammar { place }),

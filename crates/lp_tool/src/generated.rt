@@ -2,8 +2,8 @@
 
 ghost use Rattle.std.specs.Prelude.{◌≡◌, ◌++◌, ℕ, List, [], Option, None, Some, IfErr, IfOk, OnOk, length, string_bytes};
 ghost use Rattle.lp_tool.specs.Causes.{IsOfFile};
-ghost use Rattle.lp_tool.specs.LinesTold.{TellsLine};
-ghost use Rattle.lp_tool.specs.Outputs.{IsReport, course_text, first_count, size_text};
+ghost use Rattle.lp_tool.specs.LinesTold.{IsOfNoLine};
+ghost use Rattle.lp_tool.specs.Outputs.{Course, IsReport, course_text, first_count, size_text};
 ghost use Rattle.lp_tool.specs.Told.{IsPrepared, Tells};
 ghost use Rattle.lp_tool.specs.declared.command.Command.{Command};
 
@@ -12,8 +12,9 @@ use crate::status::Status;
 use crate::tool::{Prepared, emitted};
 use lp_driver::RunError;
 use lp_plain::{make_items, make_text};
-use lp_program::read_program;
+use lp_program::{Program, read_program};
 use lp_repr::StartStates;
+use lp_repr::values::RunItem;
 use lp_run::{Run, run_program};
 use lp_write::Options;
 use std::alloc::{AllocError, Global};
@@ -26,7 +27,7 @@ const BUDGET: u64 = 1_000_000;
 pub fn prepare_generated(alloc: Global, levels: u8) -> Result<Prepared, Stop>
     ensures stops { IfErr result (λ stop. IsOfFile stop.status) }
     ensures told { IfErr result (λ stop. Tells stop.grammar stop.status) }
-    ensures line { (left : Option (List ℕ)) → IfErr result (λ stop. TellsLine left stop.grammar stop.status) }
+    ensures no_line { IfErr result (λ stop. IsOfNoLine stop.status) }
     ensures prepared { (left : Option (List ℕ)) → IfOk result (IsPrepared (Some (Command.Make levels)) left) }
 {
     let Ok(source) = make_text(alloc, u32::from(levels)) else {
@@ -70,12 +71,25 @@ fn report(alloc: Global, text: &str, states: usize, levels: u8) -> Result<String
         Err(_) => return Err(AllocError),
     };
     let items = make_items(alloc, u32::from(levels))?;
-    match run_program(alloc, &program, "E0", items.as_slice(), &[], &[], BUDGET) {
-        Ok(run) => write_run(&mut output, &run)?,
-        Err(RunError::Stuck { steps }) => write_stuck(&mut output, steps)?,
+    write_course(alloc, &program, items.as_slice(), &mut output)?;
+    Ok(output)
+}
+
+/// Appends what is told of the run of these items.
+fn write_course(
+    alloc: Global,
+    program: &Program<'_>,
+    items: &[RunItem],
+    output: &mut String,
+) -> Result<(), AllocError>
+    ensures { OnOk result ((course : Course) × (string_bytes output.new ≡ string_bytes output.old ++ course_text course.events course.outcome course.steps)) }
+{
+    match run_program(alloc, program, "E0", items, &[], &[], BUDGET) {
+        Ok(run) => write_run(output, &run)?,
+        Err(RunError::Stuck { steps }) => write_stuck(output, steps)?,
         Err(_) => return Err(AllocError),
     }
-    Ok(output)
+    Ok(())
 }
 
 /// The number of states, and the length of the text.

@@ -124,7 +124,7 @@ fn taken<S: Source>(alloc: Global, source: &mut S) -> Result<Vec<u8>, Stop>
     ensures bytes { IfOk result (λ v. (bytes : List ℕ) → S.left source.old ≡ Some bytes → v.items ≡ bytes) }
     ensures stops { IfErr result (λ stop. StopsReading (S.left source.old) (S.faults source.old) (S.faults source.new) stop.status) }
     ensures told { IfErr result (λ stop. Tells stop.grammar stop.status) }
-    ensures line { (left : Option (List ℕ)) → IfErr result (λ stop. TellsLine left stop.grammar stop.status) }
+    ensures no_line { IfErr result (λ stop. IsOfNoLine stop.status) }
 {
     match read_all(alloc, source) {
         Ok(bytes) => Ok(bytes),
@@ -138,7 +138,7 @@ fn taken<S: Source>(alloc: Global, source: &mut S) -> Result<Vec<u8>, Stop>
 fn prepare_emit(alloc: Global, bytes: &[u8], options: Options) -> Result<Prepared, Stop>
     ensures stops { IfErr result (λ stop. IsOfFile stop.status) }
     ensures told { IfErr result (λ stop. Tells stop.grammar stop.status) }
-    ensures line { (left : Option (List ℕ)) → IfErr result (λ stop. TellsLine left stop.grammar stop.status) }
+    ensures no_line { IfErr result (λ stop. IsOfNoLine stop.status) }
     ensures prepared { IfOk result (IsPrepared (Some (Command.Emit options)) (Some bytes.now)) }
 {
     let file = file_of(alloc, bytes)?;

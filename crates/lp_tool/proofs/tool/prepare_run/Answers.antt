@@ -1,6 +1,8 @@
-use Rattle.std.proofs.Common.{rules, Some, refl}
+use Rattle.std.proofs.Common.{rules, IfErr, Some, refl}
 use Rattle.lp_emit.specs.Causes.{MayBeEmitted}
 use Rattle.lp_tool.specs.Outputs.{IsRunOutput}
+use Rattle.lp_tool.specs.LinesTold.{IsOfNoLine}
+use Rattle.lp_tool.proofs.LinesTold.{no_line_told}
 use Rattle.lp_tool.proofs.Telling.{made_run, tail_in}
 use Rattle.lp_tool.proofs.tool.prepare_run.Goals as goal
 
@@ -16,3 +18,14 @@ returns-in-Ok-clause-prepared c =
     let may : MayBeEmitted c.in_ok-file.file.lowered c.in_ok-file.file.tables.items = search rules in
     let run : IsRunOutput c.in_ok-file.file.lowered c.in_ok-file.file.tables.items c.args.options c.in_ok-file.file.tail.items c.in-Ok.text_len c.in-Ok.output.items = search rules in
     made_run c.args.options (Some c.args.bytes.now) c.in_ok-file.file.plain g tables tail c.in-Ok.text_len c.in-Ok.output.items c.in_ok-file.ensures.file.lowered c.in_ok-file.ensures.file.tables may (tail_in c.args.bytes.now c.in_ok-file.ensures.file.tail.0 tail tail c.in_ok-file.ensures.file.tail.1 refl) run
+
+pub returns-in_err-file-clause-line : goal.returns-in_err-file-clause-line
+returns-in_err-file-clause-line c =
+    let none : IfErr c.from_residual.result (λ stop. IsOfNoLine stop.status) = search rules in
+    no_line_told c.from_residual.result (Some c.args.bytes.now) none
+
+pub returns-in-Err-clause-line : goal.returns-in-Err-clause-line
+returns-in-Err-clause-line c =
+    let tail = c.in_ok-file.file.tail.items in
+    let of_file = tail_in c.args.bytes.now c.in_ok-file.ensures.file.tail.0 tail tail c.in_ok-file.ensures.file.tail.1 refl in
+    c.with.ensures.line c.in_ok-file.file.lowered (Some c.args.bytes.now) tail c.in_ok-file.ensures.file.lowered of_file c.in-Err.ensures.lines

@@ -1,5 +1,5 @@
 use Rattle.std.proofs.Common.{Some, refl}
-use Rattle.lp_tool.proofs.LinesTold.{no_line, told_line}
+use Rattle.lp_tool.proofs.LinesTold.{told_line}
 use Rattle.lp_tool.proofs.Telling.{holds, told_with}
 use Rattle.lp_tool.proofs.file.Stop.with.Goals as goal
 
@@ -11,5 +11,4 @@ returns-in_default c =
       grammar = h;
       told = λ g l t o. told_with c.args.grammar g c.args.status (Some c.args.grammar) l t o h;
       line = λ g left tail l i t. told_line c.args.grammar g left tail c.args.status (Some c.args.grammar) l i t h;
-      no_line = λ left n. no_line left (Some c.args.grammar) c.args.status n;
     }
