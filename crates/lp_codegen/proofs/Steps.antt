@@ -1,7 +1,6 @@
 -- Calls that write, one after another.
-use Rattle.std.proofs.Common.{◌≡◌, ℕ, List, [], ◌∷◌, ◌++◌, map}
+use Rattle.std.proofs.Common.{ℕ, List, ◌++◌, map}
 use Rattle.std.proofs.lemmas.List.{map-append}
-use Rattle.lp_write.specs.Lines.{Line}
 use Rattle.lp_write.specs.Lines.Line.{line}
 use Rattle.lp_write.specs.Writes.{Ending, Writing, Writes, AppendsAll, error_ending}
 use Rattle.lp_write.specs.declared.rust.WriteError.{WriteError}

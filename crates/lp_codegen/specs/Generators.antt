@@ -1,5 +1,5 @@
 -- What the calls of a code generator append.
-use Rattle.std.specs.Prelude.{◌≡◌, ℕ, Bool, is_some, Option, Some, None, List, [], ◌∷◌, ◌++◌, map, codes}
+use Rattle.std.specs.Prelude.{ℕ, Bool, is_some, Option, Some, None, List, [], ◌∷◌, ◌++◌, codes}
 use Rattle.std.specs.BTreeMap.{get}
 use Rattle.lp_repr.specs.NameOrder.{nonterminal_cmp}
 use Rattle.lp_repr.specs.Shown.{visibility_text}
@@ -13,8 +13,6 @@ use Rattle.lp_parts.specs.Texts.{parse_error_text}
 use Rattle.lp_parts.specs.Variants.{nonterminal_type}
 use Rattle.lp_write.specs.Headers.{Header, header_lines}
 use Rattle.lp_write.specs.Uses.{all_uses}
-use Rattle.lp_write.specs.Lines.{Line}
-use Rattle.lp_write.specs.Lines.Line.{line}
 use Rattle.lp_codegen.specs.declared.generator.CodeGenerator.{CodeGenerator}
 use Rattle.lp_codegen.specs.Modules.{inside_of, module_head, token_use}
 use Rattle.lp_codegen.specs.Parsers.{parse_answer, parse_header, parser_front, token_generics, token_parameters, token_source}

@@ -1,6 +1,5 @@
 -- How a call that writes a module around a body goes on and ends.
 use Rattle.std.specs.Prelude.{◌≡◌, ℕ, ◌⊎◌, List, [], ◌∷◌, map, codes, Result, Ok, Err}
-use Rattle.lp_write.specs.Lines.{Line}
 use Rattle.lp_write.specs.Lines.Line.{line}
 use Rattle.lp_write.specs.Sinks.{Told}
 use Rattle.lp_write.specs.Writes.{Ending, writing, Writes, error_ending, write_ending}
