@@ -1,0 +1,14 @@
+//! The calls that print one module, or one part of it, to a writer.
+#![tactic(auto)]
+
+pub mod ascent;
+mod calls;
+pub mod generator;
+mod header;
+pub mod intern_token;
+mod lines;
+mod modules;
+pub mod parse_table;
+mod parsers;
+
+pub use generator::CodeGenerator;
