@@ -1,5 +1,8 @@
 //! Why a text isn't read.
 
+ghost use Rattle.std.specs.Prelude.{◌≡◌};
+ghost use Rattle.lp_types.specs.ErrorPlace.{error_place};
+
 use lp_tok::{Error, Tok};
 use std::alloc::{AllocError, AllocFailed};
 
@@ -18,19 +21,31 @@ pub enum PlainError<'input> {
 }
 
 impl From<AllocError> for PlainError<'_> {
+    ghost use Rattle.std.specs.Prelude.{◌≡◌};
+    ghost use Rattle.lp_types.specs.declared.error.PlainError.TheVariants.{Memory};
+
+    ghost from_gives = { λ _ e. e ≡ Memory };
+
     fn from(_e: AllocError) -> Self {
         PlainError::Memory
     }
 }
 
 impl<T: Drop> From<AllocFailed<T>> for PlainError<'_> {
+    ghost use Rattle.std.specs.Prelude.{◌≡◌};
+    ghost use Rattle.lp_types.specs.declared.error.PlainError.TheVariants.{Memory};
+
+    ghost from_gives = { λ _ e. e ≡ Memory };
+
     fn from(_e: AllocFailed<T>) -> Self {
         PlainError::Memory
     }
 }
 
 /// Where an error of reading is.
-pub fn place_of(error: &ParseError<'_>) -> usize {
+pub fn place_of(error: &ParseError<'_>) -> usize
+    ensures { result ≡ error_place error.now }
+{
     match error {
         ParseError::InvalidToken { location } => *location,
         ParseError::UnrecognizedEof { location, .. } => *location,

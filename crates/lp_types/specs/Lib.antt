@@ -1,0 +1,5 @@
+pub mod Left
+pub mod Reading
+pub mod ErrorPlace
+pub mod Names
+pub mod Types

@@ -1,0 +1,220 @@
+//! A place in a list of tokens.
+
+ghost use Rattle.std.specs.Prelude.{◌≡◌, suc, IfOk};
+ghost use Rattle.std.specs.Option.{option_copied, option_map};
+ghost use Rattle.lp_types.specs.ErrorPlace.{IsErrorAt, error_place};
+ghost use Rattle.lp_types.specs.Left.{left, left_of, next, place, size, after, is_tok, text_of, texted};
+ghost use Rattle.lp_types.specs.Reading.{Answers, Read, expected, passed, seen, taken, taken_where, text};
+
+use crate::error::{ParseError, PlainError};
+use crate::tokens::Tokens;
+use lp_repr::text::{Items, Text};
+use lp_tok::{Error, Spanned, Tok};
+use std::alloc::{AllocError, Global};
+
+/// What reading a part gives.
+pub type Read<'i, T> = Result<T, PlainError<'i>>;
+
+/// How deep types and patterns may nest. The stack is memory too: what nests deeper is refused as
+/// want of memory.
+pub const MOST_DEPTH: usize = 1000;
+
+/// The tokens that are left, and how they end.
+#[derive(Drop)]
+pub struct Reader<'a, 'i> {
+    pub alloc: Global,
+    rest: &'a [Spanned<Tok<'i>>],
+    /// The error that ends the tokens.
+    error: Option<Error>,
+    /// Where the text ends.
+    end: usize,
+}
+
+/// A kind of tokens that have a text.
+#[derive(Clone, Copy, PartialEq, Eq)]
+pub enum Kind {
+    Use,
+    Id,
+    MacroId,
+    Lifetime,
+    StringLiteral,
+    CharLiteral,
+    Code,
+    FallibleCode,
+    Attribute,
+}
+
+/// The kind and the text of a token that has one.
+fn texted<'i>(token: &Tok<'i>) -> Option<(Kind, &'i str)>
+    ensures { option_map (λ p. (p.0, p.1.now)) result ≡ texted token.now }
+{
+    match token {
+        Tok::Use(text) => Some((Kind::Use, text)),
+        Tok::Id(text) => Some((Kind::Id, text)),
+        Tok::MacroId(text) => Some((Kind::MacroId, text)),
+        Tok::Lifetime(text) => Some((Kind::Lifetime, text)),
+        Tok::StringLiteral(text) => Some((Kind::StringLiteral, text)),
+        Tok::CharLiteral(text) => Some((Kind::CharLiteral, text)),
+        Tok::EqualsGreaterThanCode(text) => Some((Kind::Code, text)),
+        Tok::EqualsGreaterThanQuestionCode(text) => Some((Kind::FallibleCode, text)),
+        Tok::ShebangAttribute(text) => Some((Kind::Attribute, text)),
+        _ => None,
+    }
+}
+
+impl<'a, 'i> Reader<'a, 'i> {
+    /// Stands before the first of the tokens of a text that ends at the place `end`.
+    pub fn new(alloc: Global, tokens: &'a Tokens<'i>, end: usize) -> Reader<'a, 'i>
+        ensures { left result ≡ left_of tokens.now.list.items tokens.now.error end }
+    {
+        Reader {
+            alloc,
+            rest: tokens.list.as_slice(),
+            error: tokens.error,
+            end,
+        }
+    }
+
+    /// The next token.
+    fn peek(&self) -> Option<&'a Tok<'i>>
+        ensures { option_copied result ≡ next (left self.now) }
+    {
+        match self.rest.first() {
+            None => None,
+            Some(spanned) => Some(&spanned.1),
+        }
+    }
+
+    /// Where the next token begins, or where the tokens end.
+    pub fn place(&self) -> usize
+        ensures { result ≡ place (left self.now) }
+    {
+        match self.rest.first() {
+            Some(spanned) => spanned.0,
+            None => match self.error {
+                Some(error) => error.location,
+                None => self.end,
+            },
+        }
+    }
+
+    /// Passes the next token.
+    fn pass(&mut self)
+        ensures { left self.new ≡ after (left self.old) }
+    {
+        let tokens = self.rest;
+        if !tokens.is_empty() {
+            self.rest = &tokens[1..];
+        }
+    }
+
+    /// One more than there are tokens left.
+    pub fn turns(&self) -> usize
+        ensures { result ≡ suc (size (left self.now)) }
+    {
+        self.rest.len() + 1
+    }
+
+    /// Whether the next token is this one.
+    #[tactic(auto, unfolding(crate::specs::Reading::seen))]
+    pub fn is_next(&self, token: &Tok<'_>) -> bool
+        ensures value { result ≡ is_tok token.now (next (left self.now)) }
+        ensures seen { seen token.now (left self.now) ≡ Read result (left self.now) }
+    {
+        match self.peek() {
+            None => false,
+            Some(next) => next == token,
+        }
+    }
+
+    /// Passes this token, if it is the next one.
+    #[tactic(auto, unfolding(crate::specs::Reading::passed))]
+    pub fn passes(&mut self, token: &Tok<'_>) -> bool
+        ensures { passed token.now (left self.old) ≡ Read result (left self.new) }
+    {
+        let is_next = self.is_next(token);
+        if is_next {
+            self.pass();
+        }
+        is_next
+    }
+
+    /// Passes a token of this kind, if it is the next one, and gives its text.
+    #[tactic(auto, unfolding(crate::specs::Reading::taken))]
+    pub fn takes(&mut self, kind: Kind) -> Option<&'i str>
+        ensures { taken kind (left self.old) ≡ Read (option_copied result) (left self.new) }
+    {
+        let text = self.text_next(kind)?;
+        self.pass();
+        Some(text)
+    }
+
+    /// The same, where that is allowed.
+    #[tactic(auto, unfolding(crate::specs::Reading::taken_where, crate::specs::Reading::choose))]
+    pub fn takes_where(&mut self, allowed: bool, kind: Kind) -> Option<&'i str>
+        ensures { taken_where allowed kind (left self.old) ≡ Read (option_copied result) (left self.new) }
+    {
+        if allowed { self.takes(kind) } else { None }
+    }
+
+    /// The text of the next token, if it is of this kind.
+    fn text_next(&self, kind: Kind) -> Option<&'i str>
+        ensures { option_copied result ≡ text_of kind (next (left self.now)) }
+    {
+        let (found, text) = texted(self.peek()?)?;
+        if kind == found { Some(text) } else { None }
+    }
+
+    /// Passes this token.
+    pub fn expect(&mut self, token: &Tok<'_>) -> Read<'i, ()>
+        ensures { Answers (λ _. tt) (expected token.now (left self.old)) result (left self.new) }
+    {
+        if self.passes(token) {
+            Ok(())
+        } else {
+            Err(self.error())
+        }
+    }
+
+    /// Passes a token of this kind, and gives its text.
+    pub fn text(&mut self, kind: Kind) -> Read<'i, &'i str>
+        ensures { Answers (λ t. t.now) (text kind (left self.old)) result (left self.new) }
+    {
+        match self.takes(kind) {
+            Some(text) => Ok(text),
+            None => Err(self.error()),
+        }
+    }
+
+    /// The error at the next token.
+    pub fn error(&self) -> PlainError<'i>
+        ensures { IsErrorAt (place (left self.now)) result }
+    {
+        match self.parse_error() {
+            Ok(error) => PlainError::Parse(error),
+            Err(_) => PlainError::Memory,
+        }
+    }
+
+    fn parse_error(&self) -> Result<ParseError<'i>, AllocError>
+        ensures { IfOk result (λ e. error_place e ≡ place (left self.now)) }
+    {
+        let expected: Items<Text> = Items::new(self.alloc);
+        match self.rest.first() {
+            Some(spanned) => {
+                let token = spanned.1.clone()?;
+                Ok(ParseError::UnrecognizedToken {
+                    token: (spanned.0, token, spanned.2),
+                    expected,
+                })
+            }
+            None => match self.error {
+                Some(error) => Ok(ParseError::User { error }),
+                None => Ok(ParseError::UnrecognizedEof {
+                    location: self.end,
+                    expected,
+                }),
+            },
+        }
+    }
+}
