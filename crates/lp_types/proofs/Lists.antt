@@ -1,7 +1,7 @@
 -- Loops over things that a step finds, turn by turn.
-use Rattle.std.proofs.Common.{◌≡◌, ℕ, ◌+◌, ◌-◌, ◌<◌, ◌≤◌, Bool, true, false, Option, Some, None, List, [], ◌∷◌, ◌++◌, map, zero, suc, refl, sym, ap, ◌∙◌, subst, append_assoc, arith}
+use Rattle.std.proofs.Common.{◌≡◌, ℕ, ◌+◌, ◌-◌, ◌<◌, ◌≤◌, Bool, true, false, Option, Some, None, List, [], ◌∷◌, ◌++◌, map, zero, suc, refl, sym, ap, ◌∙◌, append_assoc, append-nil, arith}
+use Rattle.std.proofs.lemmas.List.{map-append}
 use Rattle.std.specs.Option.{option_map}
-use Rattle.std.proofs.lemmas.List.{map-append, append-nil}
 use Rattle.lp_types.specs.declared.error.PlainError.{PlainError}
 use Rattle.lp_types.specs.Left.{Left, place, size}
 use Rattle.lp_types.specs.Reading.{Found, Read, Fails, Deep, Reading, then, ◌>>=◌, choose, give, fail, many, after_one, repeated, chain, chained, FailsWith}
@@ -12,17 +12,17 @@ module _ {A : Type 0} where
   unfoldable pub joined : List A → Found (List A) → Found (List A)
   joined xs found = then found (λ ys. give (xs ++ ys))
 
-  joined_none : (found : Found (List A)) → joined [] found ≡ found
+  joined_none : (xs : List A) (found : Found (List A)) → xs ≡ [] → found ≡ joined xs found
   unfolding joined then
-  joined_none (Read xs rest) = refl
-  joined_none (Fails at) = refl
-  joined_none Deep = refl
+  joined_none xs (Read ys rest) e = ap (λ zs. Read (zs ++ ys) rest) (sym e)
+  joined_none xs (Fails at) e = refl
+  joined_none xs Deep e = refl
 
-  joined_one : (xs : List A) (x : A) (found : Found (List A)) → joined xs (then found (λ ys. give (x ∷ ys))) ≡ joined (xs ++ x ∷ []) found
+  joined_one : (xs new : List A) (x : A) (found : Found (List A)) → new ≡ xs ++ x ∷ [] → joined xs (then found (λ ys. give (x ∷ ys))) ≡ joined new found
   unfolding joined then
-  joined_one xs x (Read ys rest) = ap (λ zs. Read zs rest) (sym (append_assoc xs (x ∷ []) ys))
-  joined_one xs x (Fails at) = refl
-  joined_one xs x Deep = refl
+  joined_one xs new x (Read ys rest) e = ap (λ zs. Read zs rest) (sym (append_assoc xs (x ∷ []) ys)) ∙ ap (λ zs. Read (zs ++ ys) rest) (sym e)
+  joined_one xs new x (Fails at) e = refl
+  joined_one xs new x Deep e = refl
 
   joined_end : (xs : List A) (rest : Left) → joined xs (Read [] rest) ≡ Read xs rest
   unfolding joined then
@@ -34,103 +34,113 @@ module _ {A : Type 0} where
 
   joined_fails : (xs : List A) (found : Found (List A)) (e : PlainError) → FailsWith found e → FailsWith (joined xs found) e
   unfolding joined
-  joined_fails xs found e h = fails_then _ _ e h
+  joined_fails xs found e h = fails_then found (λ ys. give (xs ++ ys)) e h
 
   joined_out : (xs : List A) (at : ℕ) → joined xs (Fails at) ≡ Fails at
   unfolding joined then
   joined_out xs at = refl
 
-  -- things were read up to `mid`, and at most n turns are left
-  pub record SoFar (step : Reading (Option A)) (ts : Left) (xs : List A) (n : ℕ) (mid : Left) : Type 0 where
-    pub is : repeated step ts ≡ joined xs (many n step mid)
+  -- after k of at most `end` turns these things were read, and the next one is at `mid`
+  pub record SoFar (step : Reading (Option A)) (ts : Left) (xs : List A) (end k : ℕ) (mid : Left) : Type 0 where
+    pub is : repeated step ts ≡ joined xs (many (end - k) step mid)
 
-  pub begun : (step : Reading (Option A)) (ts : Left) (n : ℕ) → n ≡ suc (size ts) → SoFar step ts [] (n - 0) ts
-  unfolding repeated
-  begun step ts n e =
-      let f : n - 0 ≡ n = omega arith in
-      record { is = ap (λ k. many k step ts) (sym (f ∙ e)) ∙ sym (joined_none _) }
+  -- what a turn finds, and then what the others do
+  abbrev turn : Reading (Option A) → ℕ → Left → Found (List A)
+  turn step m mid = then (step mid) (λ o. after_one o (many m step))
 
-  pub one_more : (step : Reading (Option A)) (ts : Left) (xs : List A) (end k : ℕ) (mid next : Left) (x : A) → SoFar step ts xs (end - k) mid → k < end → step mid ≡ Read (Some x) next → SoFar step ts (xs ++ x ∷ []) (end - (k + 1)) next
-  one_more step ts xs end k mid next x so k-lt h =
-      let m : ℕ = end - (k + 1) in
-      let e : end - k ≡ suc (end - (k + 1)) = omega arith in
-      record {
-        is =
-            so.is ∙ ap (λ n. joined xs (many n step mid)) e
-            ∙ ap (joined xs) (read_then (step mid) (λ o. after_one o (many m step)) (Some x) next _ h refl)
-            ∙ joined_one xs x (many m step next);
-      }
-
-  pub ended : (step : Reading (Option A)) (ts : Left) (xs : List A) (end k : ℕ) (mid rest : Left) → SoFar step ts xs (end - k) mid → k < end → step mid ≡ Read None rest → repeated step ts ≡ Read xs rest
-  ended step ts xs end k mid rest so k-lt h =
-      let m : ℕ = end - (k + 1) in
+  in_turn : (step : Reading (Option A)) (ts : Left) (xs : List A) (end k : ℕ) (mid : Left) → SoFar step ts xs end k mid → k < end → repeated step ts ≡ joined xs (turn step (end - (k + 1)) mid)
+  in_turn step ts xs end k mid so below =
       let e : end - k ≡ suc (end - (k + 1)) = omega arith in
       so.is ∙ ap (λ n. joined xs (many n step mid)) e
-      ∙ ap (joined xs) (read_then (step mid) (λ o. after_one o (many m step)) None rest _ h refl)
+
+  pub begun : (step : Reading (Option A)) (ts : Left) (xs : List A) (end : ℕ) → xs ≡ [] → end ≡ suc (size ts) → SoFar step ts xs end 0 ts
+  unfolding repeated
+  begun step ts xs end none e =
+      let all : suc (size ts) ≡ end - 0 = omega arith in
+      record { is = ap (λ n. many n step ts) all ∙ joined_none xs (many (end - 0) step ts) none }
+
+  pub one_more : (step : Reading (Option A)) (ts : Left) (xs new : List A) (end k : ℕ) (mid next : Left) (x : A) → SoFar step ts xs end k mid → k < end → step mid ≡ Read (Some x) next → new ≡ xs ++ x ∷ [] → SoFar step ts new end (k + 1) next
+  one_more step ts xs new end k mid next x so below h added =
+      let m : ℕ = end - (k + 1) in
+      record {
+        is =
+            in_turn step ts xs end k mid so below
+            ∙ ap (joined xs) (read_then (step mid) (λ o. after_one o (many m step)) (Some x) next (then (many m step next) (λ ys. give (x ∷ ys))) h refl)
+            ∙ joined_one xs new x (many m step next) added;
+      }
+
+  pub ended : (step : Reading (Option A)) (ts : Left) (xs : List A) (end k : ℕ) (mid rest : Left) → SoFar step ts xs end k mid → k < end → step mid ≡ Read None rest → repeated step ts ≡ Read xs rest
+  ended step ts xs end k mid rest so below h =
+      let m : ℕ = end - (k + 1) in
+      in_turn step ts xs end k mid so below
+      ∙ ap (joined xs) (read_then (step mid) (λ o. after_one o (many m step)) None rest (Read [] rest) h refl)
       ∙ joined_end xs rest
 
-  pub broke : (step : Reading (Option A)) (ts : Left) (xs : List A) (end k : ℕ) (mid : Left) (e : PlainError) → SoFar step ts xs (end - k) mid → k < end → FailsWith (step mid) e → FailsWith (repeated step ts) e
-  broke step ts xs end k mid error so k-lt h =
+  pub broke : (step : Reading (Option A)) (ts : Left) (xs : List A) (end k : ℕ) (mid : Left) (e : PlainError) → SoFar step ts xs end k mid → k < end → FailsWith (step mid) e → FailsWith (repeated step ts) e
+  broke step ts xs end k mid e so below h =
       let m : ℕ = end - (k + 1) in
-      let e : end - k ≡ suc (end - (k + 1)) = omega arith in
-      fails_as _ _ error (joined_fails xs _ error (fails_then (step mid) (λ o. after_one o (many m step)) error h)) (so.is ∙ ap (λ n. joined xs (many n step mid)) e)
+      fails_as (repeated step ts) (joined xs (turn step m mid)) e (joined_fails xs (turn step m mid) e (fails_then (step mid) (λ o. after_one o (many m step)) e h)) (in_turn step ts xs end k mid so below)
 
-  pub ran_out : (step : Reading (Option A)) (ts : Left) (xs : List A) (end k : ℕ) (mid : Left) → SoFar step ts xs (end - k) mid → end ≤ k → repeated step ts ≡ Fails (place mid)
-  ran_out step ts xs end k mid so k-ge =
+  pub ran_out : (step : Reading (Option A)) (ts : Left) (xs : List A) (end k : ℕ) (mid : Left) → SoFar step ts xs end k mid → end ≤ k → repeated step ts ≡ Fails (place mid)
+  ran_out step ts xs end k mid so over =
       let e : end - k ≡ 0 = omega arith in
       so.is ∙ ap (λ n. joined xs (many n step mid)) e ∙ joined_out xs (place mid)
 
   -- the same, where the step tells whether another one follows
-  pub record ChainSoFar (step : Reading (A × Bool)) (ts : Left) (xs : List A) (n : ℕ) (mid : Left) : Type 0 where
-    pub is : chained step ts ≡ joined xs (chain n step mid)
+  pub record ChainSoFar (step : Reading (A × Bool)) (ts : Left) (xs : List A) (end k : ℕ) (mid : Left) : Type 0 where
+    pub is : chained step ts ≡ joined xs (chain (end - k) step mid)
 
   abbrev linked : (A × Bool) → Reading (List A) → Reading (List A)
   linked p rest = choose p.1 (rest >>= λ xs. give (p.0 ∷ xs)) (give (p.0 ∷ []))
 
-  pub chain_begun : (step : Reading (A × Bool)) (ts : Left) (n : ℕ) → n ≡ suc (size ts) → ChainSoFar step ts [] (n - 0) ts
-  unfolding chained
-  chain_begun step ts n e =
-      let f : n - 0 ≡ n = omega arith in
-      record { is = ap (λ k. chain k step ts) (sym (f ∙ e)) ∙ sym (joined_none _) }
+  abbrev link : Reading (A × Bool) → ℕ → Left → Found (List A)
+  link step m mid = then (step mid) (λ p. linked p (chain m step))
 
-  pub chain_one_more : (step : Reading (A × Bool)) (ts : Left) (xs : List A) (end k : ℕ) (mid next : Left) (p : A × Bool) → ChainSoFar step ts xs (end - k) mid → k < end → step mid ≡ Read p next → p.1 ≡ true → ChainSoFar step ts (xs ++ p.0 ∷ []) (end - (k + 1)) next
-  unfolding choose
-  chain_one_more step ts xs end k mid next p so k-lt h is =
-      let m : ℕ = end - (k + 1) in
-      let e : end - k ≡ suc (end - (k + 1)) = omega arith in
-      record {
-        is =
-            so.is ∙ ap (λ n. joined xs (chain n step mid)) e
-            ∙ ap (joined xs) (read_then (step mid) (λ q. linked q (chain m step)) p next _ h refl)
-            ∙ ap (λ v. joined xs (linked (p.0, v) (chain m step) next)) is
-            ∙ joined_one xs p.0 (chain m step next);
-      }
-
-  pub chain_ended : (step : Reading (A × Bool)) (ts : Left) (xs : List A) (end k : ℕ) (mid rest : Left) (p : A × Bool) → ChainSoFar step ts xs (end - k) mid → k < end → step mid ≡ Read p rest → p.1 ≡ false → chained step ts ≡ Read (xs ++ p.0 ∷ []) rest
-  unfolding choose
-  chain_ended step ts xs end k mid rest p so k-lt h is =
-      let m : ℕ = end - (k + 1) in
+  in_link : (step : Reading (A × Bool)) (ts : Left) (xs : List A) (end k : ℕ) (mid : Left) → ChainSoFar step ts xs end k mid → k < end → chained step ts ≡ joined xs (link step (end - (k + 1)) mid)
+  in_link step ts xs end k mid so below =
       let e : end - k ≡ suc (end - (k + 1)) = omega arith in
       so.is ∙ ap (λ n. joined xs (chain n step mid)) e
-      ∙ ap (joined xs) (read_then (step mid) (λ q. linked q (chain m step)) p rest _ h refl)
-      ∙ ap (λ v. joined xs (linked (p.0, v) (chain m step) rest)) is
-      ∙ joined_last xs p.0 rest
 
-  pub chain_broke : (step : Reading (A × Bool)) (ts : Left) (xs : List A) (end k : ℕ) (mid : Left) (e : PlainError) → ChainSoFar step ts xs (end - k) mid → k < end → FailsWith (step mid) e → FailsWith (chained step ts) e
-  chain_broke step ts xs end k mid error so k-lt h =
+  pub chain_begun : (step : Reading (A × Bool)) (ts : Left) (xs : List A) (end : ℕ) → xs ≡ [] → end ≡ suc (size ts) → ChainSoFar step ts xs end 0 ts
+  unfolding chained
+  chain_begun step ts xs end none e =
+      let all : suc (size ts) ≡ end - 0 = omega arith in
+      record { is = ap (λ n. chain n step ts) all ∙ joined_none xs (chain (end - 0) step ts) none }
+
+  pub chain_one_more : (step : Reading (A × Bool)) (ts : Left) (xs new : List A) (end k : ℕ) (mid next : Left) (p : A × Bool) → ChainSoFar step ts xs end k mid → k < end → step mid ≡ Read p next → p.1 ≡ true → new ≡ xs ++ p.0 ∷ [] → ChainSoFar step ts new end (k + 1) next
+  unfolding choose
+  chain_one_more step ts xs new end k mid next p so below h more added =
       let m : ℕ = end - (k + 1) in
-      let e : end - k ≡ suc (end - (k + 1)) = omega arith in
-      fails_as _ _ error (joined_fails xs _ error (fails_then (step mid) (λ p. linked p (chain m step)) error h)) (so.is ∙ ap (λ n. joined xs (chain n step mid)) e)
+      record {
+        is =
+            in_link step ts xs end k mid so below
+            ∙ ap (joined xs) (read_then (step mid) (λ q. linked q (chain m step)) p next (linked p (chain m step) next) h refl)
+            ∙ ap (λ v. joined xs (linked (p.0, v) (chain m step) next)) more
+            ∙ joined_one xs new p.0 (chain m step next) added;
+      }
 
-  pub chain_ran_out : (step : Reading (A × Bool)) (ts : Left) (xs : List A) (end k : ℕ) (mid : Left) → ChainSoFar step ts xs (end - k) mid → end ≤ k → chained step ts ≡ Fails (place mid)
-  chain_ran_out step ts xs end k mid so k-ge =
+  pub chain_ended : (step : Reading (A × Bool)) (ts : Left) (xs new : List A) (end k : ℕ) (mid rest : Left) (p : A × Bool) → ChainSoFar step ts xs end k mid → k < end → step mid ≡ Read p rest → p.1 ≡ false → new ≡ xs ++ p.0 ∷ [] → chained step ts ≡ Read new rest
+  unfolding choose
+  chain_ended step ts xs new end k mid rest p so below h last added =
+      let m : ℕ = end - (k + 1) in
+      in_link step ts xs end k mid so below
+      ∙ ap (joined xs) (read_then (step mid) (λ q. linked q (chain m step)) p rest (linked p (chain m step) rest) h refl)
+      ∙ ap (λ v. joined xs (linked (p.0, v) (chain m step) rest)) last
+      ∙ joined_last xs p.0 rest
+      ∙ ap (λ ys. Read ys rest) (sym added)
+
+  pub chain_broke : (step : Reading (A × Bool)) (ts : Left) (xs : List A) (end k : ℕ) (mid : Left) (e : PlainError) → ChainSoFar step ts xs end k mid → k < end → FailsWith (step mid) e → FailsWith (chained step ts) e
+  chain_broke step ts xs end k mid e so below h =
+      let m : ℕ = end - (k + 1) in
+      fails_as (chained step ts) (joined xs (link step m mid)) e (joined_fails xs (link step m mid) e (fails_then (step mid) (λ q. linked q (chain m step)) e h)) (in_link step ts xs end k mid so below)
+
+  pub chain_ran_out : (step : Reading (A × Bool)) (ts : Left) (xs : List A) (end k : ℕ) (mid : Left) → ChainSoFar step ts xs end k mid → end ≤ k → chained step ts ≡ Fails (place mid)
+  chain_ran_out step ts xs end k mid so over =
       let e : end - k ≡ 0 = omega arith in
       so.is ∙ ap (λ n. joined xs (chain n step mid)) e ∙ joined_out xs (place mid)
 
 module _ {T A : Type 0} where
-  -- the same, as a view sees the things
-  pub one_more_seen : (view : T → A) (step : Reading (Option A)) (ts : Left) (items new : List T) (end k : ℕ) (mid next : Left) (x : T) (o : Option T) → SoFar step ts (map view items) (end - k) mid → k < end → step mid ≡ Read (option_map view o) next → o ≡ Some x → new ≡ items ++ x ∷ [] → SoFar step ts (map view new) (end - (k + 1)) next
-  one_more_seen view step ts items new end k mid next x o so k-lt h is e =
-      let more : SoFar step ts (map view items ++ view x ∷ []) (end - (k + 1)) next = one_more step ts _ end k mid next (view x) so k-lt (h ∙ ap (λ p. Read (option_map view p) next) is) in
-      let seen : map view new ≡ map view items ++ view x ∷ [] = ap (map view) e ∙ map-append view items (x ∷ []) in
-      record { is = more.is ∙ ap (λ xs. joined xs (many (end - (k + 1)) step next)) (sym seen) }
+  -- one more, as a view sees the things
+  pub one_more_seen : (view : T → A) (step : Reading (Option A)) (ts : Left) (items new : List T) (end k : ℕ) (mid next : Left) (x : T) (o : Option T) → SoFar step ts (map view items) end k mid → k < end → step mid ≡ Read (option_map view o) next → o ≡ Some x → new ≡ items ++ x ∷ [] → SoFar step ts (map view new) end (k + 1) next
+  one_more_seen view step ts items new end k mid next x o so below h is e =
+      one_more step ts (map view items) (map view new) end k mid next (view x) so below (h ∙ ap (λ p. Read (option_map view p) next) is) (ap (map view) e ∙ map-append view items (x ∷ []))

@@ -3,8 +3,8 @@ use Rattle.std.proofs.Common.{◌≡◌, ℕ, Bool, true, false, Option, Some, N
 use Rattle.std.specs.Prelude.{IsErrAnd}
 use Rattle.lp_tok.specs.declared.tok.Tok.{Tok}
 use Rattle.lp_types.specs.declared.error.PlainError.{PlainError}
-use Rattle.lp_types.specs.declared.error.PlainError.TheVariants.{Parse, Memory}
-use Rattle.lp_types.specs.ErrorPlace.{error_place, IsErrorAt}
+use Rattle.lp_types.specs.declared.error.PlainError.TheVariants.{Memory}
+use Rattle.lp_types.specs.ErrorPlace.{error_place, IsErrorAt, error_at, no_place}
 use Rattle.lp_types.specs.Left.{Left}
 use Rattle.lp_types.specs.Reading.{Found, Read, Fails, Reading, then, choose, passed, where_next, FailsWith, fails_at, lacks_memory, Answers}
 
@@ -40,25 +40,28 @@ fails_then found f _ lacks_memory = lacks_memory
 
 -- the next token goes on nothing
 pub fails_here : {A : Type 0} (found : Found A) (at : ℕ) (e : PlainError) → IsErrorAt at e → found ≡ Fails at → FailsWith found e
-fails_here found at (Parse e) h eq = fails_at e (eq ∙ ap Fails (sym h))
-fails_here found at Memory h eq = lacks_memory
+fails_here found at _ (error_at e h) eq = fails_at e (eq ∙ ap Fails (sym h))
+fails_here found at _ no_place eq = lacks_memory
 
-pub fails_as : {A : Type 0} (found other : Found A) (e : PlainError) → FailsWith other e → found ≡ other → FailsWith found e
-fails_as found other e h eq = let P : Found _ → Type 0 = λ y. FailsWith y e in subst P (sym eq) h
+module _ {A : Type 0} where
+  pub fails_as : (found other : Found A) (e : PlainError) → FailsWith other e → found ≡ other → FailsWith found e
+  fails_as found other e h eq = let P : Found A → Type 0 = λ y. FailsWith y e in subst P (sym eq) h
 
--- an error is handed on
-pub handed_on : {A B : Type 0} (view : A → B) (found : Found B) (r : Result A PlainError) (rest : Left) (e : PlainError) → FailsWith found e → IsErrAnd r (λ x. x ≡ e) → Answers view found r rest
-handed_on view found (Ok x) rest e h is = elim is [ ]
-handed_on view found (Err x) rest e h is = let P : PlainError → Type 0 = λ y. FailsWith found y in subst P (sym is) h
+module _ {A B : Type 0} where
+  -- an error is handed on
+  pub handed_on : (view : A → B) (found : Found B) (r : Result A PlainError) (rest : Left) (e : PlainError) → FailsWith found e → IsErrAnd r (λ x. x ≡ e) → Answers view found r rest
+  handed_on view found (Ok x) rest e h is = absurd is
+  handed_on view found (Err x) rest e h is = let P : PlainError → Type 0 = λ y. FailsWith found y in subst P (sym is) h
 
--- the error of a part is handed on, after others were read
-pub part_fails : {A B C : Type 0} (view : C → B) (whole : Found B) (found : Found A) (f : A → Reading B) (r : Result C PlainError) (rest : Left) (e : PlainError) → FailsWith found e → IsErrAnd r (λ x. x ≡ e) → whole ≡ then found f → Answers view whole r rest
-part_fails view whole found f r rest e h is eq = handed_on view whole r rest e (fails_as whole (then found f) e (fails_then found f e h) eq) is
+  -- want of memory is handed on
+  pub no_memory : (view : A → B) (found : Found B) (r : Result A PlainError) (rest : Left) → IsErrAnd r (λ x. x ≡ Memory) → Answers view found r rest
+  no_memory view found r rest is = handed_on view found r rest Memory lacks_memory is
 
--- want of memory is handed on
-pub no_memory : {A B : Type 0} (view : A → B) (found : Found B) (r : Result A PlainError) (rest : Left) → IsErrAnd r (λ x. x ≡ Memory) → Answers view found r rest
-no_memory view found r rest is = handed_on view found r rest Memory lacks_memory is
+  -- what is left to read answers
+  pub answers_as : (view : A → B) (whole found : Found B) (r : Result A PlainError) (rest : Left) → Answers view found r rest → whole ≡ found → Answers view whole r rest
+  answers_as view whole found r rest h eq = let P : Found B → Type 0 = λ y. Answers view y r rest in subst P (sym eq) h
 
--- what is left to read answers
-pub answers_as : {A B : Type 0} (view : A → B) (whole found : Found B) (r : Result A PlainError) (rest : Left) → Answers view found r rest → whole ≡ found → Answers view whole r rest
-answers_as view whole found r rest h eq = let P : Found _ → Type 0 = λ y. Answers view y r rest in subst P (sym eq) h
+module _ {A B C : Type 0} where
+  -- the error of a part is handed on, after others were read
+  pub part_fails : (view : C → B) (whole : Found B) (found : Found A) (f : A → Reading B) (r : Result C PlainError) (rest : Left) (e : PlainError) → FailsWith found e → IsErrAnd r (λ x. x ≡ e) → whole ≡ then found f → Answers view whole r rest
+  part_fails view whole found f r rest e h is eq = handed_on view whole r rest e (fails_as whole (then found f) e (fails_then found f e h) eq) is

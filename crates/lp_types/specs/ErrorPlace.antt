@@ -16,6 +16,6 @@ error_place (ExtraToken token) = token.0
 error_place (User error) = error.location
 
 -- the error is at this place, or is want of memory
-abbrev pub IsErrorAt : ℕ → PlainError → Type 0
-IsErrorAt at (Parse e) = error_place e ≡ at
-IsErrorAt at Memory = Unit {0}
+pub data IsErrorAt (at : ℕ) : PlainError → Type 0 where
+  error_at : (e : ParseError ℕ Tok Error) → error_place e ≡ at → IsErrorAt at (Parse e)
+  no_place : IsErrorAt at Memory

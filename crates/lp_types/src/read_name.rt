@@ -25,13 +25,13 @@ impl<'a, 'i> Reader<'a, 'i> {
     fn parts(&mut self, takes_arguments: bool) -> Read<'i, Items<Text>>
         ensures { Answers (λ ids. ids) (chained (part takes_arguments) (left self.old)) result (left self.new) }
     {
-        let mut ids = Items::new(self.alloc);
+        let mut ids = Vec::new(self.alloc);
         for turn in 0..self.turns() {
             let found = self.part(takes_arguments)?;
             let more = found.1;
-            ids.0.push(found.0)?;
+            ids.push(found.0)?;
             if !more {
-                return Ok(ids);
+                return Ok(Items(ids));
             }
         }
         Err(self.error())

@@ -76,7 +76,7 @@ impl<'a, 'i> Reader<'a, 'i> {
     }
 
     /// The next token.
-    fn peek(&self) -> Option<&'a Tok<'i>>
+    pub fn peek(&self) -> Option<&'a Tok<'i>>
         ensures { option_copied result ≡ next (left self.now) }
     {
         match self.rest.first() {
@@ -99,7 +99,7 @@ impl<'a, 'i> Reader<'a, 'i> {
     }
 
     /// Passes the next token.
-    fn pass(&mut self)
+    pub fn pass(&mut self)
         ensures { left self.new ≡ after (left self.old) }
     {
         let tokens = self.rest;
@@ -124,6 +124,32 @@ impl<'a, 'i> Reader<'a, 'i> {
         match self.peek() {
             None => false,
             Some(next) => next == token,
+        }
+    }
+
+    /// Whether the token after the next one is this one.
+    pub fn is_second(&self, token: &Tok<'_>) -> bool {
+        let tokens = self.rest;
+        if tokens.is_empty() {
+            return false;
+        }
+        match tokens[1..].first() {
+            None => false,
+            Some(spanned) => spanned.1 == *token,
+        }
+    }
+
+    /// Whether an error ends the tokens.
+    pub fn is_cut_off(&self) -> bool {
+        self.error.is_some()
+    }
+
+    /// Nothing is left, and no error ends the tokens.
+    pub fn expect_end(&self) -> Read<'i, ()> {
+        if self.rest.is_empty() && !self.is_cut_off() {
+            Ok(())
+        } else {
+            Err(self.error())
         }
     }
 

@@ -1,7 +1,7 @@
 -- what each reader answers, from what its parts answer
 use Rattle.std.proofs.Common.{◌≡◌, arith, refl, sym, ap, ◌∙◌, map, suc}
 use Rattle.std.specs.Option.{option_map}
-use Rattle.lp_repr.specs.TypeTrees.{TypeTree, type_tree, trees_of, slice_type, reference_type, name_of}
+use Rattle.lp_repr.specs.TypeTrees.{TypeTree, type_tree, lifetime_type, slice_type, reference_type, name_of}
 use Rattle.lp_repr.proofs.TreeRows.{tuple_treed}
 use Rattle.lp_types.specs.Left.{left}
 use Rattle.lp_types.specs.Reading.{Read, lacks_memory}
@@ -16,6 +16,7 @@ ty-returns-in-None t c = lacks_memory
 pub ty-returns-in-Some : goal.ty-returns-in-Some
 unfolding type_within
 ty-returns-in-Some t c =
+    let h = c.in-Some.ensures in
     let e : c.args.depth ≡ suc c.in-Some.inner = omega arith in
     answers_as _ _ _ _ _ c.shallow_type.ensures (ap (λ d. type_within d (left c.args.self.now)) e)
 
@@ -82,11 +83,11 @@ pub reference-returns : goal.reference-returns
 unfolding reference_by
 reference-returns t c =
     read_then _ _ _ _ _ c.takes-name.ensures (read_then _ _ _ _ _ c.passes-mutable.ensures (read_then _ _ _ _ _ c.in_ok-referent.ensures
-    (ap (λ name. Read (reference_type name c.passes-mutable.result (type_tree c.in_ok-referent.referent)) (left c.ty-referent.new.self)) (sym c.in_ok-lifetime.ensures)
-    ∙ ap (λ ty. Read (reference_type (name_of c.in_ok-lifetime.lifetime) c.passes-mutable.result (type_tree ty)) (left c.ty-referent.new.self)) (sym c.in_ok-boxed.ensures.ok))))
+    (ap (λ name. Read (reference_type name c.passes-mutable.result (type_tree c.in_ok-referent.referent)) (left c.ty.new.self)) (sym c.in_ok-lifetime.ensures)
+    ∙ ap (λ ty. Read (reference_type (name_of c.in_ok-lifetime.lifetime) c.passes-mutable.result (type_tree ty)) (left c.ty.new.self)) (sym c.in_ok-boxed.ensures.ok))))
 
 pub types-loop-turn-init : goal.types-loop-turn-init
-types-loop-turn-init t c = begun _ _ c.turns.result c.turns.ensures
+types-loop-turn-init t c = begun _ _ _ _ (ap (map type_tree) c.new-types.ensures.items) c.turns.ensures
 
 pub types-returns-in_err-next_type : goal.types-returns-in_err-next_type
 unfolding types_by
@@ -100,7 +101,7 @@ pub types-returns-in_err-push-in-Some : goal.types-returns-in_err-push-in-Some
 types-returns-in_err-push-in-Some t c = no_memory _ _ _ _ c.from_residual-in_err-push-in-Some.ensures.1
 
 pub types-loop-turn-preserved : goal.types-loop-turn-preserved
-types-loop-turn-preserved t c = one_more_seen type_tree _ _ _ _ _ _ _ _ c.in-Some.ty _ c.loop-turn.invariant (omega arith) c.in_ok-next_type.ensures c.in-Some.is c.in_ok-push.ensures.items
+types-loop-turn-preserved t c = one_more_seen type_tree _ _ _ _ _ _ _ _ c.in-Some.ty _ c.loop-turn.invariant (omega arith) c.in_ok-next_type.ensures c.in-Some.is c.in_ok-push-in-Some.ensures.items
 
 pub types-returns : goal.types-returns
 unfolding types_by
@@ -123,7 +124,7 @@ argument-returns-in_err-name-in-Some t c = no_memory _ _ _ _ c.from_residual.ens
 
 pub argument-returns-in_ok-name-in-Some : goal.argument-returns-in_ok-name-in-Some
 unfolding argument_by
-argument-returns-in_ok-name-in-Some t c = ?
+argument-returns-in_ok-name-in-Some t c = read_then _ _ _ _ _ c.in-Some.ensures (ap (λ name. Read (lifetime_type name) (left c.takes_where.new.self)) (sym c.in_ok-name-in-Some.ensures.ok))
 
 pub argument-returns-in-None : goal.argument-returns-in-None
 unfolding argument_by
@@ -139,7 +140,7 @@ named_type-returns-in_err-types t c = part_fails _ _ _ _ _ _ _ c.in_err-types.en
 
 pub named_type-returns : goal.named_type-returns
 unfolding named_by
-named_type-returns t c = read_then _ _ _ _ _ c.in_ok-path.ensures (read_then _ _ _ _ _ c.in_ok-types.ensures (ap (λ ty. Read ty (left c.arguments-types.new.self)) (sym c.named.ensures)))
+named_type-returns t c = read_then _ _ _ _ _ c.in_ok-path.ensures (read_then _ _ _ _ _ c.in_ok-types.ensures (ap (λ ty. Read ty (left c.arguments.new.self)) (sym c.named.ensures)))
 
 pub arguments-returns-then-passes : goal.arguments-returns-then-passes
 unfolding arguments_by
@@ -147,4 +148,4 @@ arguments-returns-then-passes t c = answers_as _ _ _ _ _ c.types.ensures (where_
 
 pub arguments-returns-else-passes : goal.arguments-returns-else-passes
 unfolding arguments_by
-arguments-returns-else-passes t c = where_no _ _ _ _ _ _ _ c.passes.ensures c.if-passes.false refl
+arguments-returns-else-passes t c = where_no _ _ _ _ _ _ _ c.passes.ensures c.if-passes.false (ap (λ types. Read (map type_tree types) (left c.passes.new.self)) (sym c.new.ensures.items))

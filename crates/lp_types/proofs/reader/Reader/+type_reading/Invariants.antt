@@ -1,5 +1,5 @@
 -- how deep a type may nest, and how far its parts are from the next type
-use Rattle.std.proofs.Common.{◌+◌, ◌*◌, ◌-◌, map}
+use Rattle.std.proofs.Common.{◌+◌, ◌*◌, map}
 use Rattle.lp_repr.specs.TypeTrees.{type_tree}
 use Rattle.lp_types.specs.Left.{left}
 use Rattle.lp_types.specs.Reading.{listed}
@@ -38,4 +38,4 @@ abbrev pub decreases-shallow_type : goal.decreases-shallow_type
 decreases-shallow_type l = 7 * l.inner + 6
 
 abbrev pub invariant-types-loop-turn : goal.invariant-types-loop-turn
-invariant-types-loop-turn l = SoFar (listed l.fn.closer (argument_by (type_within l.fn.inner) l.fn.lifetimes)) (left l.fn.self) (map type_tree l.types.items) (l.turn-end - l.turn) (left l.self)
+invariant-types-loop-turn l = SoFar (listed l.fn.closer (argument_by (type_within l.fn.inner) l.fn.lifetimes)) (left l.fn.self) (map type_tree l.types.items) l.turn-end l.turn (left l.self)

@@ -7,7 +7,7 @@ use Rattle.lp_types.proofs.Steps.{handed_on, no_memory, fails_here}
 use Rattle.lp_types.proofs.reader.Reader.type_parameters.Goals as goal
 
 pub loop-turn-init : goal.loop-turn-init
-loop-turn-init c = begun _ _ c.turns.result c.turns.ensures
+loop-turn-init c = begun _ _ _ _ c.new-parameters.ensures.items c.turns.ensures
 
 pub returns-in_err-next_type_parameter : goal.returns-in_err-next_type_parameter
 unfolding type_parameters
@@ -21,7 +21,7 @@ pub returns-in_err-push-in-Some : goal.returns-in_err-push-in-Some
 returns-in_err-push-in-Some c = no_memory _ _ _ _ c.from_residual-in_err-push-in-Some.ensures.1
 
 pub loop-turn-preserved : goal.loop-turn-preserved
-loop-turn-preserved c = rw c.in_ok-push.ensures.items (one_more _ _ _ _ _ _ _ c.in-Some.parameter c.loop-turn.invariant (omega arith) (c.in_ok-next_type_parameter.ensures ∙ ap (λ o. Read o (left c.next_type_parameter.new.self)) c.in-Some.is))
+loop-turn-preserved c = one_more _ _ _ _ _ _ _ _ c.in-Some.parameter c.loop-turn.invariant (omega arith) (c.in_ok-next_type_parameter.ensures ∙ ap (λ o. Read o (left c.next_type_parameter.new.self)) c.in-Some.is) c.in_ok-push-in-Some.ensures.items
 
 pub returns : goal.returns
 unfolding type_parameters

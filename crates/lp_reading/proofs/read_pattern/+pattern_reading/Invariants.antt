@@ -1,6 +1,6 @@
 -- how deep a pattern may nest, and how far its parts are from the next pattern
 use Rattle.std.proofs.Common.{◌+◌, ◌*◌}
-use Rattle.lp_reading.proofs.reader.Reader.+pattern_reading.Given as goal
+use Rattle.lp_reading.proofs.read_pattern.+pattern_reading.Given as goal
 
 abbrev pub decreases-pattern : goal.decreases-pattern
 decreases-pattern l = 4 * l.depth
