@@ -3,3 +3,4 @@ pub mod Reading
 pub mod ErrorPlace
 pub mod Names
 pub mod Types
+pub mod Bounds

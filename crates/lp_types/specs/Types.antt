@@ -5,6 +5,7 @@ use Rattle.lp_repr.specs.TypeTrees.{TypeTree, TypeTrees, tuple_type, slice_type,
 use Rattle.lp_tok.specs.declared.tok.Tok.{Tok}
 use Rattle.lp_tok.specs.declared.tok.Tok.TheVariants.{LeftParen, RightParen, LeftBracket, RightBracket, Ampersand, Dyn, LessThan, GreaterThan, Mut}
 use Rattle.lp_types.specs.declared.reader.Kind.TheVariants as kind
+use Rattle.lp_types.specs.declared.reader.TheConstants.{MOST_DEPTH}
 use Rattle.lp_types.specs.Reading.{Reading, Deep, ◌>>=◌, give, where_next, expected, taken, taken_where, passed, repeated, listed}
 use Rattle.lp_types.specs.Names.{path}
 
@@ -58,3 +59,7 @@ type_by inner =
 unfoldable pub type_within : ℕ → Reading TypeTree
 type_within zero = λ ts. Deep
 type_within (suc depth) = type_by (type_within depth)
+
+-- a type that nests at most as deep as a reader goes
+unfoldable pub full_type : Reading TypeTree
+full_type = type_within MOST_DEPTH

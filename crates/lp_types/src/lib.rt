@@ -2,6 +2,7 @@
 #![tactic(auto)]
 
 mod error;
+mod read_bound;
 mod read_name;
 mod read_type;
 mod reader;

@@ -5,16 +5,23 @@ ghost use Rattle.std.specs.Option.{option_copied, option_map};
 ghost use Rattle.lp_repr.specs.TypeTrees.{name_of, type_tree, types_trees};
 ghost use Rattle.lp_types.specs.Left.{left};
 ghost use Rattle.lp_types.specs.Reading.{Answers, listed};
-ghost use Rattle.lp_types.specs.Types.{argument_by, arguments_by, named_by, named_tree, reference_by, slice_by, tuple_by, type_by, type_within, types_by};
+ghost use Rattle.lp_types.specs.Types.{argument_by, arguments_by, full_type, named_by, named_tree, reference_by, slice_by, tuple_by, type_by, type_within, types_by};
 
 use crate::error::PlainError;
-use crate::reader::{Kind, Read, Reader};
+use crate::reader::{Kind, MOST_DEPTH, Read, Reader};
 use lp_repr::parse_tree::Path;
 use lp_repr::repr::{NominalTypeRepr, TypeRepr};
 use lp_tok::Tok;
 use std::alloc::{AllocError, Global};
 
 impl<'a, 'i> Reader<'a, 'i> {
+    /// A type.
+    pub fn full_type(&mut self) -> Read<'i, TypeRepr>
+        ensures { Answers type_tree (full_type (left self.old)) result (left self.new) }
+    {
+        self.ty(MOST_DEPTH)
+    }
+
     /// A type that nests at most so deep.
     #[cycle(type_reading)]
     pub fn ty(&mut self, depth: usize) -> Read<'i, TypeRepr>

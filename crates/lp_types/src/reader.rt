@@ -128,15 +128,17 @@ impl<'a, 'i> Reader<'a, 'i> {
     }
 
     /// Whether the token after the next one is this one.
-    pub fn is_second(&self, token: &Tok<'_>) -> bool {
-        let tokens = self.rest;
-        if tokens.is_empty() {
-            return false;
-        }
-        match tokens[1..].first() {
-            None => false,
-            Some(spanned) => spanned.1 == *token,
-        }
+    pub fn is_second(&self, token: &Tok<'_>) -> bool
+        ensures { result ≡ is_tok token.now (next (after (left self.now))) }
+    {
+        let mut behind = Reader {
+            alloc: self.alloc,
+            rest: self.rest,
+            error: self.error,
+            end: self.end,
+        };
+        behind.pass();
+        behind.is_next(token)
     }
 
     /// Whether an error ends the tokens.
@@ -184,7 +186,7 @@ impl<'a, 'i> Reader<'a, 'i> {
     }
 
     /// The text of the next token, if it is of this kind.
-    fn text_next(&self, kind: Kind) -> Option<&'i str>
+    pub fn text_next(&self, kind: Kind) -> Option<&'i str>
         ensures { option_copied result ≡ text_of kind (next (left self.now)) }
     {
         let (found, text) = texted(self.peek()?)?;
