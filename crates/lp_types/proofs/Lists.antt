@@ -4,7 +4,7 @@ use Rattle.std.proofs.lemmas.List.{map-append}
 use Rattle.std.specs.Option.{option_map}
 use Rattle.lp_types.specs.declared.error.PlainError.{PlainError}
 use Rattle.lp_types.specs.Left.{Left, place, size}
-use Rattle.lp_types.specs.Reading.{Found, Read, Fails, Deep, Reading, then, ◌>>=◌, choose, give, fail, many, after_one, repeated, chain, chained, FailsWith}
+use Rattle.lp_types.specs.Reading.{Found, Read, Fails, Deep, Reading, then, ◌>>=◌, choose, give, fail, many, after_one, repeated, chain, chained_by, FailsWith}
 use Rattle.lp_types.proofs.Steps.{read_then, fails_then, fails_as}
 
 module _ {A : Type 0} where
@@ -18,19 +18,19 @@ module _ {A : Type 0} where
   joined_none xs (Fails at) e = refl
   joined_none xs Deep e = refl
 
-  joined_one : (xs new : List A) (x : A) (found : Found (List A)) → new ≡ xs ++ x ∷ [] → joined xs (then found (λ ys. give (x ∷ ys))) ≡ joined new found
+  joined_more : (xs new list : List A) (found : Found (List A)) → new ≡ xs ++ list → joined xs (then found (λ ys. give (list ++ ys))) ≡ joined new found
   unfolding joined then
-  joined_one xs new x (Read ys rest) e = ap (λ zs. Read zs rest) (sym (append_assoc xs (x ∷ []) ys)) ∙ ap (λ zs. Read (zs ++ ys) rest) (sym e)
-  joined_one xs new x (Fails at) e = refl
-  joined_one xs new x Deep e = refl
+  joined_more xs new list (Read ys rest) e = ap (λ zs. Read zs rest) (sym (append_assoc xs list ys)) ∙ ap (λ zs. Read (zs ++ ys) rest) (sym e)
+  joined_more xs new list (Fails at) e = refl
+  joined_more xs new list Deep e = refl
 
   joined_end : (xs : List A) (rest : Left) → joined xs (Read [] rest) ≡ Read xs rest
   unfolding joined then
   joined_end xs rest = ap (λ zs. Read zs rest) (append-nil xs)
 
-  joined_last : (xs : List A) (x : A) (rest : Left) → joined xs (Read (x ∷ []) rest) ≡ Read (xs ++ x ∷ []) rest
+  joined_last : (xs list : List A) (rest : Left) → joined xs (Read list rest) ≡ Read (xs ++ list) rest
   unfolding joined then
-  joined_last xs x rest = refl
+  joined_last xs list rest = refl
 
   joined_fails : (xs : List A) (found : Found (List A)) (e : PlainError) → FailsWith found e → FailsWith (joined xs found) e
   unfolding joined
@@ -66,7 +66,7 @@ module _ {A : Type 0} where
         is =
             in_turn step ts xs end k mid so below
             ∙ ap (joined xs) (read_then (step mid) (λ o. after_one o (many m step)) (Some x) next (then (many m step next) (λ ys. give (x ∷ ys))) h refl)
-            ∙ joined_one xs new x (many m step next) added;
+            ∙ joined_more xs new (x ∷ []) (many m step next) added;
       }
 
   pub ended : (step : Reading (Option A)) (ts : Left) (xs : List A) (end k : ℕ) (mid rest : Left) → SoFar step ts xs end k mid → k < end → step mid ≡ Read None rest → repeated step ts ≡ Read xs rest
@@ -86,58 +86,59 @@ module _ {A : Type 0} where
       let e : end - k ≡ 0 = omega arith in
       so.is ∙ ap (λ n. joined xs (many n step mid)) e ∙ joined_out xs (place mid)
 
+module _ {X A : Type 0} where
   -- the same, where the step tells whether another one follows
-  pub record ChainSoFar (step : Reading (A × Bool)) (ts : Left) (xs : List A) (end k : ℕ) (mid : Left) : Type 0 where
-    pub is : chained step ts ≡ joined xs (chain (end - k) step mid)
+  pub record ChainSoFar (list : X → List A) (step : Reading (X × Bool)) (ts : Left) (xs : List A) (end k : ℕ) (mid : Left) : Type 0 where
+    pub is : chained_by list step ts ≡ joined xs (chain list (end - k) step mid)
 
-  abbrev linked : (A × Bool) → Reading (List A) → Reading (List A)
-  linked p rest = choose p.1 (rest >>= λ xs. give (p.0 ∷ xs)) (give (p.0 ∷ []))
+  abbrev linked : (X → List A) → (X × Bool) → Reading (List A) → Reading (List A)
+  linked list p rest = choose p.1 (rest >>= λ xs. give (list p.0 ++ xs)) (give (list p.0))
 
-  abbrev link : Reading (A × Bool) → ℕ → Left → Found (List A)
-  link step m mid = then (step mid) (λ p. linked p (chain m step))
+  abbrev link : (X → List A) → Reading (X × Bool) → ℕ → Left → Found (List A)
+  link list step m mid = then (step mid) (λ p. linked list p (chain list m step))
 
-  in_link : (step : Reading (A × Bool)) (ts : Left) (xs : List A) (end k : ℕ) (mid : Left) → ChainSoFar step ts xs end k mid → k < end → chained step ts ≡ joined xs (link step (end - (k + 1)) mid)
-  in_link step ts xs end k mid so below =
+  in_link : (list : X → List A) (step : Reading (X × Bool)) (ts : Left) (xs : List A) (end k : ℕ) (mid : Left) → ChainSoFar list step ts xs end k mid → k < end → chained_by list step ts ≡ joined xs (link list step (end - (k + 1)) mid)
+  in_link list step ts xs end k mid so below =
       let e : end - k ≡ suc (end - (k + 1)) = omega arith in
-      so.is ∙ ap (λ n. joined xs (chain n step mid)) e
+      so.is ∙ ap (λ n. joined xs (chain list n step mid)) e
 
-  pub chain_begun : (step : Reading (A × Bool)) (ts : Left) (xs : List A) (end : ℕ) → xs ≡ [] → end ≡ suc (size ts) → ChainSoFar step ts xs end 0 ts
-  unfolding chained
-  chain_begun step ts xs end none e =
+  pub chain_begun : (list : X → List A) (step : Reading (X × Bool)) (ts : Left) (xs : List A) (end : ℕ) → xs ≡ [] → end ≡ suc (size ts) → ChainSoFar list step ts xs end 0 ts
+  unfolding chained_by
+  chain_begun list step ts xs end none e =
       let all : suc (size ts) ≡ end - 0 = omega arith in
-      record { is = ap (λ n. chain n step ts) all ∙ joined_none xs (chain (end - 0) step ts) none }
+      record { is = ap (λ n. chain list n step ts) all ∙ joined_none xs (chain list (end - 0) step ts) none }
 
-  pub chain_one_more : (step : Reading (A × Bool)) (ts : Left) (xs new : List A) (end k : ℕ) (mid next : Left) (p : A × Bool) → ChainSoFar step ts xs end k mid → k < end → step mid ≡ Read p next → p.1 ≡ true → new ≡ xs ++ p.0 ∷ [] → ChainSoFar step ts new end (k + 1) next
+  pub chain_one_more : (list : X → List A) (step : Reading (X × Bool)) (ts : Left) (xs new : List A) (end k : ℕ) (mid next : Left) (p : X × Bool) → ChainSoFar list step ts xs end k mid → k < end → step mid ≡ Read p next → p.1 ≡ true → new ≡ xs ++ list p.0 → ChainSoFar list step ts new end (k + 1) next
   unfolding choose
-  chain_one_more step ts xs new end k mid next p so below h more added =
+  chain_one_more list step ts xs new end k mid next p so below h more added =
       let m : ℕ = end - (k + 1) in
       record {
         is =
-            in_link step ts xs end k mid so below
-            ∙ ap (joined xs) (read_then (step mid) (λ q. linked q (chain m step)) p next (linked p (chain m step) next) h refl)
-            ∙ ap (λ v. joined xs (linked (p.0, v) (chain m step) next)) more
-            ∙ joined_one xs new p.0 (chain m step next) added;
+            in_link list step ts xs end k mid so below
+            ∙ ap (joined xs) (read_then (step mid) (λ q. linked list q (chain list m step)) p next (linked list p (chain list m step) next) h refl)
+            ∙ ap (λ v. joined xs (linked list (p.0, v) (chain list m step) next)) more
+            ∙ joined_more xs new (list p.0) (chain list m step next) added;
       }
 
-  pub chain_ended : (step : Reading (A × Bool)) (ts : Left) (xs new : List A) (end k : ℕ) (mid rest : Left) (p : A × Bool) → ChainSoFar step ts xs end k mid → k < end → step mid ≡ Read p rest → p.1 ≡ false → new ≡ xs ++ p.0 ∷ [] → chained step ts ≡ Read new rest
+  pub chain_ended : (list : X → List A) (step : Reading (X × Bool)) (ts : Left) (xs new : List A) (end k : ℕ) (mid rest : Left) (p : X × Bool) → ChainSoFar list step ts xs end k mid → k < end → step mid ≡ Read p rest → p.1 ≡ false → new ≡ xs ++ list p.0 → chained_by list step ts ≡ Read new rest
   unfolding choose
-  chain_ended step ts xs new end k mid rest p so below h last added =
+  chain_ended list step ts xs new end k mid rest p so below h last added =
       let m : ℕ = end - (k + 1) in
-      in_link step ts xs end k mid so below
-      ∙ ap (joined xs) (read_then (step mid) (λ q. linked q (chain m step)) p rest (linked p (chain m step) rest) h refl)
-      ∙ ap (λ v. joined xs (linked (p.0, v) (chain m step) rest)) last
-      ∙ joined_last xs p.0 rest
+      in_link list step ts xs end k mid so below
+      ∙ ap (joined xs) (read_then (step mid) (λ q. linked list q (chain list m step)) p rest (linked list p (chain list m step) rest) h refl)
+      ∙ ap (λ v. joined xs (linked list (p.0, v) (chain list m step) rest)) last
+      ∙ joined_last xs (list p.0) rest
       ∙ ap (λ ys. Read ys rest) (sym added)
 
-  pub chain_broke : (step : Reading (A × Bool)) (ts : Left) (xs : List A) (end k : ℕ) (mid : Left) (e : PlainError) → ChainSoFar step ts xs end k mid → k < end → FailsWith (step mid) e → FailsWith (chained step ts) e
-  chain_broke step ts xs end k mid e so below h =
+  pub chain_broke : (list : X → List A) (step : Reading (X × Bool)) (ts : Left) (xs : List A) (end k : ℕ) (mid : Left) (e : PlainError) → ChainSoFar list step ts xs end k mid → k < end → FailsWith (step mid) e → FailsWith (chained_by list step ts) e
+  chain_broke list step ts xs end k mid e so below h =
       let m : ℕ = end - (k + 1) in
-      fails_as (chained step ts) (joined xs (link step m mid)) e (joined_fails xs (link step m mid) e (fails_then (step mid) (λ q. linked q (chain m step)) e h)) (in_link step ts xs end k mid so below)
+      fails_as (chained_by list step ts) (joined xs (link list step m mid)) e (joined_fails xs (link list step m mid) e (fails_then (step mid) (λ q. linked list q (chain list m step)) e h)) (in_link list step ts xs end k mid so below)
 
-  pub chain_ran_out : (step : Reading (A × Bool)) (ts : Left) (xs : List A) (end k : ℕ) (mid : Left) → ChainSoFar step ts xs end k mid → end ≤ k → chained step ts ≡ Fails (place mid)
-  chain_ran_out step ts xs end k mid so over =
+  pub chain_ran_out : (list : X → List A) (step : Reading (X × Bool)) (ts : Left) (xs : List A) (end k : ℕ) (mid : Left) → ChainSoFar list step ts xs end k mid → end ≤ k → chained_by list step ts ≡ Fails (place mid)
+  chain_ran_out list step ts xs end k mid so over =
       let e : end - k ≡ 0 = omega arith in
-      so.is ∙ ap (λ n. joined xs (chain n step mid)) e ∙ joined_out xs (place mid)
+      so.is ∙ ap (λ n. joined xs (chain list n step mid)) e ∙ joined_out xs (place mid)
 
 module _ {T A : Type 0} where
   -- one more, as a view sees the things

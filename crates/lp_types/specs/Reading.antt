@@ -1,6 +1,5 @@
 -- Readings: what stands at the front of the tokens that are left, put together from its parts.
-use Rattle.std.specs.Prelude.{◌≡◌, ℕ, Bool, true, false, List, [], ◌∷◌, Option, Some, None, Result, Ok, Err, zero, suc, map}
-use Rattle.std.specs.Option.{option_map}
+use Rattle.std.specs.Prelude.{◌≡◌, ℕ, Bool, true, false, List, [], ◌∷◌, ◌++◌, Option, Some, None, Result, Ok, Err, zero, suc}
 use Rattle.lp_repr.specs.declared.values.ParseError.{ParseError}
 use Rattle.lp_tok.specs.declared.tok.Error.{Error}
 use Rattle.lp_tok.specs.declared.tok.Tok.{Tok}
@@ -92,18 +91,26 @@ abbrev pub many : {A : Type 0} → ℕ → Reading (Option A) → Reading (List 
 many zero step = fail
 many (suc n) step = step >>= λ o. after_one o (many n step)
 
--- things, each of which the step finds with whether another one follows; at most so many
-abbrev pub chain : {A : Type 0} → ℕ → Reading (A × Bool) → Reading (List A)
-chain zero step = fail
-chain (suc n) step = step >>= λ p. choose p.1 (chain n step >>= λ xs. give (p.0 ∷ xs)) (give (p.0 ∷ []))
+-- things, each of which the step finds with whether another one follows, as the lists that they are; at most
+-- so many
+abbrev pub chain : {A B : Type 0} → (A → List B) → ℕ → Reading (A × Bool) → Reading (List B)
+chain list zero step = fail
+chain list (suc n) step = step >>= λ p. choose p.1 (chain list n step >>= λ xs. give (list p.0 ++ xs)) (give (list p.0))
 
 -- things, each of which the step finds, up to where it finds none
 unfoldable pub repeated : {A : Type 0} → Reading (Option A) → Reading (List A)
 repeated step ts = many (suc (size ts)) step ts
 
+unfoldable pub chained_by : {A B : Type 0} → (A → List B) → Reading (A × Bool) → Reading (List B)
+chained_by list step ts = chain list (suc (size ts)) step ts
+
 -- things, each of which the step finds with whether another one follows
-unfoldable pub chained : {A : Type 0} → Reading (A × Bool) → Reading (List A)
-chained step ts = chain (suc (size ts)) step ts
+abbrev pub chained : {A : Type 0} → Reading (A × Bool) → Reading (List A)
+chained step = chained_by (λ x. x ∷ []) step
+
+-- the same of lists, which are joined
+abbrev pub spread : {A : Type 0} → Reading (List A × Bool) → Reading (List A)
+spread step = chained_by (λ xs. xs) step
 
 -- after a thing in a list a `,` comes, which is passed, or the closer, which isn't
 unfoldable pub separated : Tok → Reading (Unit {0})
