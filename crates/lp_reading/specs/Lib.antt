@@ -1,0 +1,3 @@
+pub mod EnumTokens
+pub mod Symbols
+pub mod Grammars

@@ -3,6 +3,7 @@
 
 mod error;
 mod read_bound;
+mod read_clause;
 mod read_name;
 mod read_type;
 mod reader;

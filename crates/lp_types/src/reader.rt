@@ -2,6 +2,7 @@
 
 ghost use Rattle.std.specs.Prelude.{◌≡◌, suc, IfOk};
 ghost use Rattle.std.specs.Option.{option_copied, option_map};
+ghost use Rattle.lp_types.specs.Clauses.{goes_on};
 ghost use Rattle.lp_types.specs.ErrorPlace.{IsErrorAt, error_place};
 ghost use Rattle.lp_types.specs.Left.{left, left_of, next, place, size, after, is_tok, text_of, texted};
 ghost use Rattle.lp_types.specs.Reading.{Answers, Read, expected, passed, seen, taken, taken_where, text};
@@ -144,6 +145,16 @@ impl<'a, 'i> Reader<'a, 'i> {
     /// Whether an error ends the tokens.
     pub fn is_cut_off(&self) -> bool {
         self.error.is_some()
+    }
+
+    /// Whether neither `;` nor the end of the text comes.
+    pub fn goes_on(&self) -> bool
+        ensures { result ≡ goes_on (left self.now) }
+    {
+        match self.rest.first() {
+            None => self.error.is_some(),
+            Some(spanned) => !(spanned.1 == Tok::Semi),
+        }
     }
 
     /// Nothing is left, and no error ends the tokens.
