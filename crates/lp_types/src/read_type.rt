@@ -180,7 +180,7 @@ fn named(object: bool, path: Path, types: Vec<TypeRepr>) -> TypeRepr
 
 /// A copy of a text, if there is one.
 fn owned(alloc: Global, text: Option<&str>) -> Result<Option<String>, AllocError>
-    ensures { IfOk result (λ name. name_of name ≡ option_copied text) }
+    ensures { IfOk result (λ name. name_of name ≡ option_copied text.entry) }
 {
     match text {
         None => Ok(None),

@@ -87,7 +87,7 @@ reference-returns t c =
     ∙ ap (λ ty. Read (reference_type (name_of c.in_ok-lifetime.lifetime) c.passes-mutable.result (type_tree ty)) (left c.ty.new.self)) (sym c.in_ok-boxed.ensures.ok))))
 
 pub types-loop-turn-init : goal.types-loop-turn-init
-types-loop-turn-init t c = begun _ _ _ _ (ap (map type_tree) c.new-types.ensures.items) c.turns.ensures
+types-loop-turn-init t c = begun _ _ _ _ (ap (map type_tree) c.new-types.ensures.items) c.turns-turn-end.ensures
 
 pub types-returns-in_err-next_type : goal.types-returns-in_err-next_type
 unfolding types_by

@@ -9,7 +9,7 @@ use Rattle.lp_types.proofs.Steps.{handed_on, no_memory, fails_here}
 use Rattle.lp_types.proofs.reader.Reader.bound_arguments.Goals as goal
 
 pub loop-turn-init : goal.loop-turn-init
-loop-turn-init c = begun _ _ _ _ (ap (map bound_parameter_tree) c.new-arguments.ensures.items) c.turns.ensures
+loop-turn-init c = begun _ _ _ _ (ap (map bound_parameter_tree) c.new-arguments.ensures.items) c.turns-turn-end.ensures
 
 pub returns-in_err-next_argument : goal.returns-in_err-next_argument
 unfolding bound_arguments

@@ -7,7 +7,7 @@ use Rattle.lp_types.proofs.Steps.{handed_on, no_memory, fails_here}
 use Rattle.lp_types.proofs.reader.Reader.type_parameters.Goals as goal
 
 pub loop-turn-init : goal.loop-turn-init
-loop-turn-init c = begun _ _ _ _ c.new-parameters.ensures.items c.turns.ensures
+loop-turn-init c = begun _ _ _ _ c.new-parameters.ensures.items c.turns-turn-end.ensures
 
 pub returns-in_err-next_type_parameter : goal.returns-in_err-next_type_parameter
 unfolding type_parameters
