@@ -87,7 +87,7 @@ impl<'a, 'i> Reader<'a, 'i> {
 
     /// `T: bounds`, in a binder, where there is one.
     fn type_clauses(&mut self, names: Option<&Vec<TypeParameter>>) -> Read<'i, Vec<WhereClause>>
-        ensures { Answers (λ v. map clause_tree v.items) (type_clauses (names_of names) (left self.old)) result (left self.new) }
+        ensures { Answers (λ v. map clause_tree v.items) (type_clauses (names_of names.entry) (left self.old)) result (left self.new) }
     {
         let subject = self.full_type()?;
         self.subject_clauses(names, &subject, false)
@@ -100,7 +100,7 @@ impl<'a, 'i> Reader<'a, 'i> {
         subject: &TypeRepr,
         lifetimes: bool,
     ) -> Read<'i, Vec<WhereClause>>
-        ensures { Answers (λ v. map clause_tree v.items) (subject_clauses (names_of names) (type_tree subject.now) lifetimes (left self.old)) result (left self.new) }
+        ensures { Answers (λ v. map clause_tree v.items) (subject_clauses (names_of names.entry) (type_tree subject.now) lifetimes (left self.old)) result (left self.new) }
     {
         self.expect(&Tok::Colon)?;
         self.bound_clauses(names, subject, lifetimes)
@@ -113,7 +113,7 @@ impl<'a, 'i> Reader<'a, 'i> {
         subject: &TypeRepr,
         lifetimes: bool,
     ) -> Read<'i, Vec<WhereClause>>
-        ensures { Answers (λ v. map clause_tree v.items) (chained_by (bound_clauses (names_of names) (type_tree subject.now)) (linked_bound lifetimes) (left self.old)) result (left self.new) }
+        ensures { Answers (λ v. map clause_tree v.items) (chained_by (bound_clauses (names_of names.entry) (type_tree subject.now)) (linked_bound lifetimes) (left self.old)) result (left self.new) }
     {
         let mut clauses = Vec::new(self.alloc);
         for turn in 0..self.turns() {
@@ -164,7 +164,7 @@ fn clause_in(
     subject: &TypeRepr,
     bound: TypeBound<TypeRepr>,
 ) -> Result<WhereClause, AllocError>
-    ensures { IfOk result (λ c. clause_tree c ≡ in_binder (names_of names) (bound_clause (type_tree subject.now) (bound_tree bound))) }
+    ensures { IfOk result (λ c. clause_tree c ≡ in_binder (names_of names.entry) (bound_clause (type_tree subject.now) (bound_tree bound))) }
 {
     let subject = subject.clone()?;
     let clause = WhereClause::Bound { subject, bound };

@@ -5,10 +5,10 @@ use Rattle.lp_types.specs.Reading.{Read}
 use Rattle.lp_types.proofs.Steps.{where_yes, where_no}
 use Rattle.lp_types.proofs.reader.Reader.more_clauses.Goals as goal
 
-pub returns-then-is_comma : goal.returns-then-is_comma
+pub returns-then-not-is_comma : goal.returns-then-not-is_comma
 unfolding more_clauses
-returns-then-is_comma c = where_no _ _ _ _ _ _ _ c.passes-is_comma.ensures c.if-is_comma.true refl
+returns-then-not-is_comma c = where_no _ _ _ _ _ _ _ c.passes-is_comma.ensures c.if-not-is_comma.true refl
 
 pub returns : goal.returns
 unfolding more_clauses
-returns c = where_yes _ _ _ _ _ _ _ c.passes-is_comma.ensures c.if-is_comma.false (ap (λ b. Read b (left c.passes-is_comma.new.self)) (sym c.goes_on.ensures))
+returns c = where_yes _ _ _ _ _ _ _ c.passes-is_comma.ensures c.if-not-is_comma.false (ap (λ b. Read b (left c.passes-is_comma.new.self)) (sym c.goes_on.ensures))
