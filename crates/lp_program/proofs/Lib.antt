@@ -1,5 +1,8 @@
+pub mod Adding
 pub mod Forests
+pub mod Grafts
 pub mod Growing
+pub mod Parts
 pub mod Printing
 pub mod Progress
 pub mod Rows
