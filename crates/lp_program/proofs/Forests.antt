@@ -1,5 +1,5 @@
 -- The trees of a list of parts, one after another.
-use Rattle.std.proofs.Common.{◌≡◌, ℕ, ◌-◌, ◌≤◌, zero, suc, List, [], ◌∷◌, length, take, drop, refl, ap, ◌∙◌, arith, length-drop}
+use Rattle.std.proofs.Common.{◌≡◌, ℕ, ◌≤◌, zero, suc, List, [], ◌∷◌, length, take, drop, refl, ap, ◌∙◌, arith, length-drop}
 use Rattle.lp_tree.specs.declared.tree.Entry.{Entry}
 use Rattle.lp_program.specs.Trees.{content, forest, forest_within}
 use Rattle.lp_program.specs.Trees.Forest.{bare, tree}

@@ -1,7 +1,8 @@
 pub mod Forests
+pub mod Growing
 pub mod Printing
 pub mod Progress
 pub mod Rows
 pub mod Runs
-pub mod Spelled
 pub mod Stepping
+pub mod Taking

@@ -1,5 +1,5 @@
 -- Trees that are printed in a row, as long as a step takes them.
-use Rattle.std.proofs.Common.{◌≡◌, ℕ, ◌+◌, ◌≤◌, true, false, min, suc, List, [], ◌∷◌, ◌++◌, length, take, drop, Result, IfOk, refl, sym, ap, ◌∙◌, arith, append-nil, subst}
+use Rattle.std.proofs.Common.{◌≡◌, ℕ, ◌≤◌, true, false, min, suc, List, [], ◌∷◌, ◌++◌, length, take, drop, Result, IfOk, refl, sym, ap, ◌∙◌, arith, append-nil, subst}
 use Rattle.std.specs.List.{prefix_len}
 use Rattle.lp_form.specs.declared.template.Step.{Step}
 use Rattle.lp_write.specs.Lines.{Line}

@@ -1,6 +1,9 @@
 pub mod Trees
-pub mod Lines
 pub mod TableRows
 pub mod OwnLines
 pub mod Printed
 pub mod Places
+pub mod CodeReading
+pub mod Taking
+pub mod Reads
+pub mod Growing

@@ -8,7 +8,7 @@ use Rattle.lp_form.specs.declared.template.Step.TheVariants as step
 use Rattle.lp_write.specs.Lines.{Line}
 use Rattle.lp_write.specs.Lines.Line.{line, verbatim}
 use Rattle.lp_write.specs.declared.rust.Options.{Options}
-use Rattle.lp_program.specs.Lines.{line_of}
+use Rattle.lp_spelling.specs.Lines.{line_of}
 use Rattle.lp_program.specs.Trees.{Content, Note}
 use Rattle.lp_program.specs.TableRows.{table_lines}
 

@@ -1,7 +1,6 @@
 //! Program trees: their forms, their printing and their reading.
 #![tactic(auto)]
 
-mod line;
 pub mod print;
 pub mod read;
 

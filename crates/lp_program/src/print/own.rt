@@ -2,16 +2,16 @@
 
 ghost use Rattle.std.specs.Prelude.{◌≡◌, ◌++◌, [], ◌∷◌, map, replicate, codes, if◌then◌else◌};
 ghost use Rattle.lp_form.specs.Templates.{piece};
-ghost use Rattle.lp_program.specs.Lines.{line_of};
+ghost use Rattle.lp_spelling.specs.Lines.{line_of};
 ghost use Rattle.lp_program.specs.OwnLines.{code_lines, hole, note_lines, own_lines};
 ghost use Rattle.lp_program.specs.Trees.{content, forest, note, tree_count};
 ghost use Rattle.lp_write.specs.Lines.Line.{line};
 ghost use Rattle.lp_write.specs.Writes.{options_of, writing, Writes, write_ending};
 
-use crate::line::line_text;
 use crate::print::table::print_table;
 use lp_form::Step;
 use lp_form::template::Piece as LinePart;
+use lp_spelling::spell::line_text;
 use lp_tree::piece::Piece;
 use lp_tree::tree::{Entry, RowNote};
 use lp_view::end_of;

@@ -1,9 +1,7 @@
 //! Reading a program from its text.
 
-mod cursor;
-mod fill;
-mod line;
+mod growing;
 mod reader;
-mod rows;
+mod taking;
 
 pub use reader::{ReadFault, read_program};

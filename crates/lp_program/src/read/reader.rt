@@ -1,13 +1,14 @@
 //! The reader of programs: by the templates of the parts, from the front of the text on.
 
-ghost use Rattle.std.specs.Prelude.{◌≡◌, ◌<◌, ◌≤◌, length};
+ghost use Rattle.std.specs.Prelude.{◌≡◌, length, IsTrue};
+ghost use Rattle.lp_form.specs.Templates.{holes_of};
 
-use crate::read::cursor::Cursor;
-use crate::read::line::{Scope, read_line};
-use crate::read::rows::{Table, read_entries};
+use crate::read::growing::{Growing, code_step, line_step, lines_step, use_step};
+use crate::read::taking::{TakenTable, cut_line, take_entries, take_use};
 use lp_form::{Class, Line, Part, Step, holes, members, steps};
+use lp_spelling::cursor::Cursor;
+use lp_spelling::line::{Scope, read_line};
 use lp_texts::is_identifier;
-use lp_tok::code_end;
 use lp_tree::piece::Piece;
 use lp_tree::tree::{Entry, Program};
 use std::alloc::{AllocError, Global};
@@ -90,8 +91,8 @@ fn prefix_of(text: &str) -> &str {
             return NO_PREFIX;
         };
         if line.starts_with("use ") {
-            match use_end(cursor) {
-                Some((_, next)) => cursor = cursor.at(next),
+            match take_use(cursor) {
+                Some(taken) => cursor = taken.next,
                 None => return NO_PREFIX,
             }
         } else {
@@ -104,28 +105,18 @@ fn prefix_of(text: &str) -> &str {
     NO_PREFIX
 }
 
-/// The text of the use in the next line, and the place after its `;`.
-fn use_end<'t>(cursor: Cursor<'t>) -> Option<(&'t str, usize)> {
-    let text = cursor.text();
-    let from = cursor.start().saturating_add(4);
-    if from > text.len() || !text.is_char_boundary(from) {
-        return None;
-    }
-    let end = code_end(text, from).ok()?;
-    let after = text.get(end..)?;
-    if !after.starts_with(";") {
-        return None;
-    }
-    let next = end.saturating_add(1);
-    let rest = text.get(next..)?;
-    if !rest.is_empty() && !rest.starts_with("\n") {
-        return None;
-    }
-    Some((text.get(from..end)?, next))
+/// Whether a part that is being read has no hole that a line tells, and none so far.
+fn is_blank_part(growing: &Growing<'_>) -> bool
+    ensures { IsTrue result → (length (holes_of growing.now.part) ≡ 0) × (length growing.now.holes.items ≡ 0) }
+{
+    holes(growing.part).is_empty() && growing.holes.is_empty()
 }
 
 impl<'t> Reader<'t> {
-    fn scope(&self, part: Part) -> Scope<'t> {
+    fn scope(&self, part: Part) -> Scope<'t>
+        ensures prefix { result.prefix.now ≡ self.now.prefix.now }
+        ensures kinds { result.kinds.now ≡ holes_of part }
+    {
         Scope {
             alloc: self.alloc,
             prefix: self.prefix,
@@ -164,36 +155,39 @@ impl<'t> Reader<'t> {
             notes: Vec::new(self.alloc),
             below: 0,
         })?;
-        let mut known = Vec::new(self.alloc);
+        let mut growing = Growing {
+            part,
+            holes: Vec::new(self.alloc),
+            numbers: Vec::new(self.alloc),
+            tabled: false,
+        };
         for step in steps(part) {
-            if !self.read_step(depth - 1, at, *step, &mut known)? {
+            if !self.read_own(at, *step, &mut growing)?
+                || !self.read_below(depth - 1, at, step.0)?
+            {
                 return Ok(false);
             }
         }
-        self.finish(at, known);
+        self.finish(at, growing);
         Ok(true)
     }
 
     /// Puts in what was not known when a part was added.
-    fn finish(&mut self, at: usize, known: Vec<Piece<'t>>) {
+    fn finish(&mut self, at: usize, growing: Growing<'t>) {
+        let Growing { holes, numbers, .. } = growing;
         let count = self.entries.len();
         if at < count {
             let entry = &mut self.entries[at];
-            entry.holes = known;
+            entry.holes = holes;
+            entry.numbers = numbers;
             entry.below = count - at - 1;
         }
     }
 
-    /// Reads what a step prints.
+    /// Reads the parts that a step has.
     #[cycle(reading)]
-    fn read_step(
-        &mut self,
-        depth: usize,
-        at: usize,
-        step: Line,
-        known: &mut Vec<Piece<'t>>,
-    ) -> Result<bool, AllocError> {
-        match step.0 {
+    fn read_below(&mut self, depth: usize, at: usize, step: Step) -> Result<bool, AllocError> {
+        match step {
             Step::One(class) => self.read_class(depth, at, class),
             Step::Optional(class) => self.read_optional(depth, class),
             Step::Many(class) => self.read_many(depth, class),
@@ -201,32 +195,57 @@ impl<'t> Reader<'t> {
                 self.read_class(depth, at, class)? && self.read_many(depth, class)?,
             ),
             Step::Pairs(first, second) => self.read_pairs(depth, at, first, second),
-            _ => self.read_own(at, step, known),
+            _ => Ok(true),
         }
     }
 
-    /// Reads what a step prints that has no parts below.
+    /// Takes what a step prints itself.
     fn read_own(
         &mut self,
         at: usize,
         step: Line,
-        known: &mut Vec<Piece<'t>>,
+        growing: &mut Growing<'t>,
     ) -> Result<bool, AllocError> {
+        let scope = self.scope(growing.part);
         match step.0 {
-            Step::Line(_) => self.take_line(at, step, known),
-            Step::Each(_) => {
-                for _ in 0..self.kids_of(at) {
-                    if !self.take_line(at, step, known)? {
-                        return Ok(false);
-                    }
-                }
-                Ok(true)
+            Step::Line(_) => {
+                let next = line_step(scope, step.1, growing, self.cursor)?;
+                Ok(self.goes_on(next))
             }
-            Step::Use => self.take_use(known),
-            Step::Code => self.take_code(known),
-            Step::Entries => self.take_entries(at),
+            Step::Each(_) => {
+                let count = self.kids_of(at);
+                let (place, all) = lines_step(scope, count, step.1, growing, self.cursor)?;
+                self.cursor = place;
+                if !all {
+                    self.miss_here();
+                }
+                Ok(all)
+            }
+            Step::Use => self.take_use(growing),
+            Step::Code => self.take_code(growing),
+            Step::Entries => self.take_entries(growing),
             _ => Ok(true),
         }
+    }
+
+    /// Goes on behind what was taken; where nothing was, the next line doesn't fit.
+    fn goes_on(&mut self, next: Option<Cursor<'t>>) -> bool {
+        match next {
+            Some(place) => {
+                self.cursor = place;
+                true
+            }
+            None => {
+                self.miss_here();
+                false
+            }
+        }
+    }
+
+    /// Notes that the next line doesn't fit.
+    fn miss_here(&mut self) {
+        let line = self.cursor.number();
+        self.miss(line);
     }
 
     /// How many parts stand directly below a part, so far.
@@ -243,110 +262,60 @@ impl<'t> Reader<'t> {
         count
     }
 
-    /// Takes a line that is spelled by the step.
-    fn take_line(
-        &mut self,
-        at: usize,
-        step: Line,
-        known: &mut Vec<Piece<'t>>,
-    ) -> Result<bool, AllocError> {
-        let part = if at < self.entries.len() {
-            self.entries[at].part
-        } else {
-            Part::Program
-        };
-        let scope = self.scope(part);
-        if let Some(line) = self.cursor.line() {
-            if read_line(scope, step.1, known, line)? {
-                self.cursor = self.cursor.after_line();
-                return Ok(true);
-            }
-        }
-        let line = self.cursor.number();
-        self.miss(line);
-        Ok(false)
-    }
-
     /// Takes a use.
-    fn take_use(&mut self, known: &mut Vec<Piece<'t>>) -> Result<bool, AllocError> {
-        match use_end(self.cursor) {
-            Some((text, next)) => {
-                known.push(Piece::new(CowStr::Borrowed(text)))?;
-                self.cursor = self.cursor.at(next);
+    fn take_use(&mut self, growing: &mut Growing<'t>) -> Result<bool, AllocError> {
+        if !is_blank_part(growing) {
+            return Ok(false);
+        }
+        match use_step(growing, self.cursor)? {
+            Some(place) => {
+                self.cursor = place;
                 Ok(true)
             }
             None => {
-                let from = self.cursor.start().saturating_add(4);
-                self.miss_cut(from);
+                let line = cut_line(self.cursor, self.cursor.start().saturating_add(4));
+                self.miss(line);
                 Ok(false)
             }
         }
     }
 
-    /// Notes the line at which a cut from a place stopped or failed.
-    fn miss_cut(&mut self, from: usize) {
-        let text = self.cursor.text();
-        let line = if from <= text.len() && text.is_char_boundary(from) {
-            match code_end(text, from) {
-                Ok(end) => {
-                    if end < text.len() {
-                        self.cursor.line_at(end)
-                    } else {
-                        self.cursor.past_last()
-                    }
-                }
-                Err(_) => self.cursor.past_last(),
+    /// Takes user code.
+    fn take_code(&mut self, growing: &mut Growing<'t>) -> Result<bool, AllocError> {
+        if !is_blank_part(growing) {
+            return Ok(false);
+        }
+        match code_step(growing, self.cursor)? {
+            Some(place) => {
+                self.cursor = place;
+                Ok(true)
             }
-        } else {
-            self.cursor.past_last()
-        };
-        self.miss(line);
-    }
-
-    /// Takes user code: up to the `}` at which its cut stops, without the line feed before it.
-    fn take_code(&mut self, known: &mut Vec<Piece<'t>>) -> Result<bool, AllocError> {
-        let text = self.cursor.text();
-        let from = self.cursor.raw();
-        if from <= text.len() && text.is_char_boundary(from) {
-            if let Ok(end) = code_end(text, from) {
-                if let (Some(code), Some(after)) = (text.get(from..end), text.get(end..)) {
-                    if after.starts_with("}") {
-                        let code = code.strip_suffix("\n").unwrap_or(code);
-                        known.push(Piece::new(CowStr::Borrowed(code)))?;
-                        self.cursor = self.cursor.at(end);
-                        return Ok(true);
-                    }
-                }
+            None => {
+                let line = cut_line(self.cursor, self.cursor.raw());
+                self.miss(line);
+                Ok(false)
             }
         }
-        self.miss_cut(from);
-        Ok(false)
     }
 
     /// Takes the entries of a table.
-    fn take_entries(&mut self, at: usize) -> Result<bool, AllocError> {
-        let text = self.cursor.text();
-        let from = self.cursor.raw();
-        let Table {
-            numbers,
-            end,
-            ended,
-        } = read_entries(self.alloc, text, from)?;
-        if !ended {
-            let line = if end < text.len() {
-                self.cursor.line_at(end)
-            } else {
-                self.cursor.past_last()
-            };
-            self.miss(line);
+    fn take_entries(&mut self, growing: &mut Growing<'t>) -> Result<bool, AllocError> {
+        if growing.tabled {
             return Ok(false);
         }
-        if at < self.entries.len() {
-            let entry = &mut self.entries[at];
-            entry.numbers = numbers;
+        match take_entries(self.alloc, self.cursor)? {
+            TakenTable::Whole(numbers, place) => {
+                growing.numbers = numbers;
+                growing.tabled = true;
+                self.cursor = place;
+                Ok(true)
+            }
+            TakenTable::Broken(place) => {
+                let line = self.cursor.line_from(place);
+                self.miss(line);
+                Ok(false)
+            }
         }
-        self.cursor = self.cursor.at(end);
-        Ok(true)
     }
 
     /// Whether the lines in front begin the part.

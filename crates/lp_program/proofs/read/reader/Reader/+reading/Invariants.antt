@@ -19,5 +19,5 @@ decreases-read_pairs l = 8 * l.depth + 4
 abbrev pub decreases-read_part : goal.decreases-read_part
 decreases-read_part l = 8 * l.depth
 
-abbrev pub decreases-read_step : goal.decreases-read_step
-decreases-read_step l = 8 * l.depth + 5
+abbrev pub decreases-read_below : goal.decreases-read_below
+decreases-read_below l = 8 * l.depth + 5

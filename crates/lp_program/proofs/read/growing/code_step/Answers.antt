@@ -1,0 +1,19 @@
+use Rattle.std.proofs.Common.{◌≡◌, ◌∷◌, ◌++◌, [], refl, sym, rules, subst}
+use Rattle.lp_spelling.specs.Cursors.{left}
+use Rattle.lp_program.specs.declared.read.growing.Growing.{Growing}
+use Rattle.lp_program.specs.CodeReading.{IsCode}
+use Rattle.lp_program.proofs.Growing.{grows_text, first_hole}
+use Rattle.lp_program.proofs.read.growing.code_step.Goals as goal
+
+pub returns : goal.returns
+returns c =
+    let taken = c.in-Some.taken in
+    let text = taken.text.now in
+    let old = c.args.growing.now in
+    let after : Growing = record old { holes = c.push.new.self } in
+    let pushed : after.holes.items ≡ old.holes.items ++ text ∷ [] = search rules in
+    record {
+      same = c.in-Some.ensures.0;
+      grows = λ prefix. grows_text prefix old after text refl (λ t. t) (λ t. refl) c.requires.kinds pushed;
+      takes = λ content m. subst (λ x. IsCode (left c.args.cursor) x (left taken.next)) (sym (first_hole old.holes.items after content text c.requires.first pushed m)) c.in-Some.ensures.1;
+    }

@@ -1,0 +1,17 @@
+-- So many lines are taken, whatever the part becomes.
+use Rattle.std.proofs.Common.{◌≡◌, map}
+use Rattle.lp_form.specs.Templates.{piece, holes_of}
+use Rattle.lp_program.specs.Trees.{Content}
+use Rattle.lp_spelling.specs.Lines.{line_of}
+use Rattle.lp_spelling.specs.Cursors.{left, IsTaken}
+use Rattle.lp_program.specs.Reads.{TakesLines}
+use Rattle.lp_program.specs.Growing.{Grows, MayBecome}
+use Rattle.lp_program.proofs.read.growing.lines_step.Given as goal
+
+abbrev pub invariant-loop-i : goal.invariant-loop-i
+invariant-loop-i l = record {
+  kinds : l.scope.kinds.now ≡ holes_of l.growing.part;
+  same : IsTaken l.cursor l.place;
+  grows : Grows l.scope.prefix.now l.initial.growing l.growing;
+  takes : (c : Content) → MayBecome l.growing c → TakesLines l._i (line_of l.scope.prefix.now c.holes (map piece l.pieces)) (left l.cursor) (left l.place);
+}
