@@ -1,7 +1,7 @@
 //! Grammar files as wholes.
 
-use crate::read_rule::How;
-use crate::reader::{MOST_DEPTH, Read, Reader};
+use crate::read_pattern::token_pattern;
+use crate::read_rule::{How, escaped, rule};
 use lp_repr::consts::{ERROR, INLINE, LOCATION, RECURSIVE_ASCENT, TABLE_DRIVEN};
 use lp_repr::parse_tree::TypeParameter;
 use lp_repr::repr::{
@@ -10,6 +10,7 @@ use lp_repr::repr::{
 use lp_repr::text::{Items, Text};
 use lp_syntax::{PlainGrammar, PlainRule, PlainTerminal};
 use lp_tok::Tok;
+use lp_types::{Kind, Read, Reader};
 
 /// What stands before the rules.
 #[derive(Drop)]
@@ -31,280 +32,280 @@ struct Extern {
     conversions: Items<PlainTerminal>,
 }
 
-impl<'a, 'i> Reader<'a, 'i> {
-    /// A grammar, which is all that is left.
-    pub fn grammar(&mut self, prefix: Text) -> Read<'i, PlainGrammar> {
-        let head = self.head()?;
-        let mut rules = Items::new(self.alloc);
-        self.rules(&mut rules)?;
-        let block = self.extern_block()?;
-        self.rules(&mut rules)?;
-        self.expect_end()?;
-        let Head {
-            attributes,
-            uses,
-            algorithm,
-            type_parameters,
-            parameters,
-            where_clauses,
-        } = head;
-        let Extern {
-            location,
-            error,
-            token,
-            conversions,
-        } = block;
-        Ok(PlainGrammar {
-            prefix,
-            attributes,
-            uses,
-            algorithm,
-            type_parameters,
-            parameters,
-            where_clauses,
-            location,
-            error,
-            token,
-            conversions,
-            rules,
-        })
-    }
+/// A grammar, which is all that is left.
+pub fn grammar<'i>(reader: &mut Reader<'_, 'i>, prefix: Text) -> Read<'i, PlainGrammar> {
+    let head = head(reader)?;
+    let mut rules = Items::new(reader.alloc);
+    add_rules(reader, &mut rules)?;
+    let block = extern_block(reader)?;
+    add_rules(reader, &mut rules)?;
+    reader.expect_end()?;
+    let Head {
+        attributes,
+        uses,
+        algorithm,
+        type_parameters,
+        parameters,
+        where_clauses,
+    } = head;
+    let Extern {
+        location,
+        error,
+        token,
+        conversions,
+    } = block;
+    Ok(PlainGrammar {
+        prefix,
+        attributes,
+        uses,
+        algorithm,
+        type_parameters,
+        parameters,
+        where_clauses,
+        location,
+        error,
+        token,
+        conversions,
+        rules,
+    })
+}
 
-    fn head(&mut self) -> Read<'i, Head> {
-        let attributes = self.attributes()?;
-        let uses = self.uses()?;
-        let codegen = self.codegen()?;
-        self.expect(&Tok::Grammar)?;
-        let type_parameters = if self.passes(&Tok::LessThan) {
-            Items(self.type_parameters()?)
-        } else {
-            Items::new(self.alloc)
-        };
-        let parameters = if self.passes(&Tok::LeftParen) {
-            self.parameters()?
-        } else {
-            Items::new(self.alloc)
-        };
-        let where_clauses = if self.passes(&Tok::Where) {
-            Items(self.where_clauses()?)
-        } else {
-            Items::new(self.alloc)
-        };
-        self.expect(&Tok::Semi)?;
-        Ok(Head {
-            attributes,
-            uses,
-            algorithm: Algorithm {
-                lalr: false,
-                codegen,
-            },
-            type_parameters,
-            parameters,
-            where_clauses,
-        })
-    }
+fn head<'i>(reader: &mut Reader<'_, 'i>) -> Read<'i, Head> {
+    let attributes = attributes(reader)?;
+    let uses = uses(reader)?;
+    let codegen = codegen(reader)?;
+    reader.expect(&Tok::Grammar)?;
+    let type_parameters = if reader.passes(&Tok::LessThan) {
+        Items(reader.type_parameters()?)
+    } else {
+        Items::new(reader.alloc)
+    };
+    let parameters = if reader.passes(&Tok::LeftParen) {
+        parameters(reader)?
+    } else {
+        Items::new(reader.alloc)
+    };
+    let where_clauses = if reader.passes(&Tok::Where) {
+        Items(reader.clauses()?)
+    } else {
+        Items::new(reader.alloc)
+    };
+    reader.expect(&Tok::Semi)?;
+    Ok(Head {
+        attributes,
+        uses,
+        algorithm: Algorithm {
+            lalr: false,
+            codegen,
+        },
+        type_parameters,
+        parameters,
+        where_clauses,
+    })
+}
 
-    fn attributes(&mut self) -> Read<'i, Items<Text>> {
-        let mut attributes = Items::new(self.alloc);
-        for _ in 0..self.left() {
-            match self.peek() {
-                Some(Tok::ShebangAttribute(text)) => {
-                    attributes.0.push(self.text(text)?)?;
-                    self.pass();
-                }
-                _ => break,
+fn attributes<'i>(reader: &mut Reader<'_, 'i>) -> Read<'i, Items<Text>> {
+    let mut attributes = Items::new(reader.alloc);
+    for _ in 0..reader.turns() {
+        match reader.peek() {
+            Some(Tok::ShebangAttribute(text)) => {
+                attributes.0.push(Text::from_str(reader.alloc, text)?)?;
+                reader.pass();
             }
+            _ => break,
         }
-        Ok(attributes)
     }
+    Ok(attributes)
+}
 
-    fn uses(&mut self) -> Read<'i, Items<Text>> {
-        let mut uses = Items::new(self.alloc);
-        for _ in 0..self.left() {
-            match self.peek() {
-                Some(Tok::Use(text)) => {
-                    uses.0.push(self.text(text.trim())?)?;
-                    self.pass();
-                    self.expect(&Tok::Semi)?;
-                }
-                _ => break,
+fn uses<'i>(reader: &mut Reader<'_, 'i>) -> Read<'i, Items<Text>> {
+    let mut uses = Items::new(reader.alloc);
+    for _ in 0..reader.turns() {
+        match reader.peek() {
+            Some(Tok::Use(text)) => {
+                uses.0.push(Text::from_str(reader.alloc, text.trim())?)?;
+                reader.pass();
+                reader.expect(&Tok::Semi)?;
             }
-        }
-        Ok(uses)
-    }
-
-    /// `#[recursive_ascent]`, `#[table_driven]` or nothing.
-    fn codegen(&mut self) -> Read<'i, LrCodeGeneration> {
-        if !self.passes(&Tok::Hash) {
-            return Ok(LrCodeGeneration::TableDriven);
-        }
-        self.expect(&Tok::LeftBracket)?;
-        let codegen = if self.passes(&Tok::Id(RECURSIVE_ASCENT)) {
-            LrCodeGeneration::RecursiveAscent
-        } else {
-            self.expect(&Tok::Id(TABLE_DRIVEN))?;
-            LrCodeGeneration::TableDriven
-        };
-        self.expect(&Tok::RightBracket)?;
-        Ok(codegen)
-    }
-
-    /// What follows `(`: parameters between commas, up to `)`.
-    fn parameters(&mut self) -> Read<'i, Items<Parameter>> {
-        let mut parameters = Items::new(self.alloc);
-        for _ in 0..self.left() {
-            if self.is_next(&Tok::RightParen) {
-                break;
-            }
-            parameters.0.push(self.parameter()?)?;
-            if !self.passes(&Tok::Comma) {
-                break;
-            }
-        }
-        self.expect(&Tok::RightParen)?;
-        Ok(parameters)
-    }
-
-    fn parameter(&mut self) -> Read<'i, Parameter> {
-        let name = self.id()?;
-        self.expect(&Tok::Colon)?;
-        let ty = self.ty(MOST_DEPTH)?;
-        Ok(Parameter {
-            name: self.text(name)?,
-            ty,
-        })
-    }
-
-    /// Rules, up to a token that begins none.
-    fn rules(&mut self, rules: &mut Items<PlainRule>) -> Read<'i, ()> {
-        for _ in 0..self.left() {
-            match self.next_rule()? {
-                Some(rule) => rules.0.push(rule)?,
-                None => break,
-            }
-        }
-        Ok(())
-    }
-
-    /// The next rule, unless the next token begins none.
-    fn next_rule(&mut self) -> Read<'i, Option<PlainRule>> {
-        match self.how()? {
-            Some(how) => Ok(Some(self.rule(how)?)),
-            None => Ok(None),
+            _ => break,
         }
     }
+    Ok(uses)
+}
 
-    /// `#[inline]`, `pub` or nothing before a rule's name; None where no rule begins.
-    fn how(&mut self) -> Read<'i, Option<How>> {
-        match self.peek() {
-            Some(Tok::Hash) => {
-                self.pass();
-                self.inline_mark()
-            }
-            Some(Tok::Pub) => {
-                self.pass();
-                Ok(Some(How::Public))
-            }
-            Some(Tok::Id(_)) => Ok(Some(How::Private)),
-            _ => Ok(None),
+/// `#[recursive_ascent]`, `#[table_driven]` or nothing.
+fn codegen<'i>(reader: &mut Reader<'_, 'i>) -> Read<'i, LrCodeGeneration> {
+    if !reader.passes(&Tok::Hash) {
+        return Ok(LrCodeGeneration::TableDriven);
+    }
+    reader.expect(&Tok::LeftBracket)?;
+    let codegen = if reader.passes(&Tok::Id(RECURSIVE_ASCENT)) {
+        LrCodeGeneration::RecursiveAscent
+    } else {
+        reader.expect(&Tok::Id(TABLE_DRIVEN))?;
+        LrCodeGeneration::TableDriven
+    };
+    reader.expect(&Tok::RightBracket)?;
+    Ok(codegen)
+}
+
+/// What follows `(`: parameters between commas, up to `)`.
+fn parameters<'i>(reader: &mut Reader<'_, 'i>) -> Read<'i, Items<Parameter>> {
+    let mut parameters = Items::new(reader.alloc);
+    for _ in 0..reader.turns() {
+        if reader.is_next(&Tok::RightParen) {
+            break;
+        }
+        parameters.0.push(parameter(reader)?)?;
+        if !reader.passes(&Tok::Comma) {
+            break;
         }
     }
+    reader.expect(&Tok::RightParen)?;
+    Ok(parameters)
+}
 
-    /// What follows the `#` of `#[inline]`.
-    fn inline_mark(&mut self) -> Read<'i, Option<How>> {
-        self.expect(&Tok::LeftBracket)?;
-        self.expect(&Tok::Id(INLINE))?;
-        self.expect(&Tok::RightBracket)?;
-        Ok(Some(How::Inline))
-    }
+fn parameter<'i>(reader: &mut Reader<'_, 'i>) -> Read<'i, Parameter> {
+    let name = reader.text(Kind::Id)?;
+    reader.expect(&Tok::Colon)?;
+    let ty = reader.full_type()?;
+    Ok(Parameter {
+        name: Text::from_str(reader.alloc, name)?,
+        ty,
+    })
+}
 
-    fn extern_block(&mut self) -> Read<'i, Extern> {
-        self.expect(&Tok::Extern)?;
-        self.expect(&Tok::LeftBrace)?;
-        let (location, error) = self.associated_types()?;
-        self.expect(&Tok::Enum)?;
-        let token = self.ty(MOST_DEPTH)?;
-        self.expect(&Tok::LeftBrace)?;
-        let conversions = self.conversions()?;
-        self.expect(&Tok::RightBrace)?;
-        Ok(Extern {
-            location,
-            error,
-            token,
-            conversions,
-        })
-    }
-
-    /// `type Location = T;` and `type Error = T;`, each of which may be there.
-    fn associated_types(&mut self) -> Read<'i, (Option<TypeRepr>, Option<TypeRepr>)> {
-        if !self.passes(&Tok::TypeWord) {
-            return Ok((None, None));
+/// Rules, up to a token that begins none.
+fn add_rules<'i>(reader: &mut Reader<'_, 'i>, rules: &mut Items<PlainRule>) -> Read<'i, ()> {
+    for _ in 0..reader.turns() {
+        match next_rule(reader)? {
+            Some(found) => rules.0.push(found)?,
+            None => break,
         }
-        if self.passes(&Tok::Id(ERROR)) {
-            return Ok((None, Some(self.associated_type()?)));
-        }
-        self.expect(&Tok::Id(LOCATION))?;
-        let location = self.associated_type()?;
-        if !self.passes(&Tok::TypeWord) {
-            return Ok((Some(location), None));
-        }
-        self.expect(&Tok::Id(ERROR))?;
-        let error = self.associated_type()?;
-        Ok((Some(location), Some(error)))
     }
+    Ok(())
+}
 
-    /// What follows the name of an associated type.
-    fn associated_type(&mut self) -> Read<'i, TypeRepr> {
-        self.expect(&Tok::Equals)?;
-        let ty = self.ty(MOST_DEPTH)?;
-        self.expect(&Tok::Semi)?;
-        Ok(ty)
+/// The next rule, unless the next token begins none.
+fn next_rule<'i>(reader: &mut Reader<'_, 'i>) -> Read<'i, Option<PlainRule>> {
+    match how(reader)? {
+        Some(how) => Ok(Some(rule(reader, how)?)),
+        None => Ok(None),
     }
+}
 
-    /// What follows the `{` of `enum`: terminals with their patterns between commas, and `}`.
-    fn conversions(&mut self) -> Read<'i, Items<PlainTerminal>> {
-        let mut conversions = Items::new(self.alloc);
-        for _ in 0..self.left() {
-            if self.is_next(&Tok::RightBrace) {
-                break;
-            }
-            conversions.0.push(self.conversion()?)?;
-            if !self.passes(&Tok::Comma) {
-                break;
-            }
+/// `#[inline]`, `pub` or nothing before a rule's name; None where no rule begins.
+fn how<'i>(reader: &mut Reader<'_, 'i>) -> Read<'i, Option<How>> {
+    match reader.peek() {
+        Some(Tok::Hash) => {
+            reader.pass();
+            inline_mark(reader)
         }
-        self.expect(&Tok::RightBrace)?;
-        Ok(conversions)
+        Some(Tok::Pub) => {
+            reader.pass();
+            Ok(Some(How::Public))
+        }
+        Some(Tok::Id(_)) => Ok(Some(How::Private)),
+        _ => Ok(None),
     }
+}
 
-    fn conversion(&mut self) -> Read<'i, PlainTerminal> {
-        let place = self.place();
-        let name = self.terminal()?;
-        match self.peek() {
-            Some(Tok::EqualsGreaterThanCode(_)) => self.pass(),
-            _ => return Err(self.error()),
-        }
-        let pattern = self.token_pattern()?;
-        Ok(PlainTerminal {
-            name,
-            pattern,
-            place,
-        })
+/// What follows the `#` of `#[inline]`.
+fn inline_mark<'i>(reader: &mut Reader<'_, 'i>) -> Read<'i, Option<How>> {
+    reader.expect(&Tok::LeftBracket)?;
+    reader.expect(&Tok::Id(INLINE))?;
+    reader.expect(&Tok::RightBracket)?;
+    Ok(Some(How::Inline))
+}
+
+fn extern_block<'i>(reader: &mut Reader<'_, 'i>) -> Read<'i, Extern> {
+    reader.expect(&Tok::Extern)?;
+    reader.expect(&Tok::LeftBrace)?;
+    let (location, error) = associated_types(reader)?;
+    reader.expect(&Tok::Enum)?;
+    let token = reader.full_type()?;
+    reader.expect(&Tok::LeftBrace)?;
+    let conversions = conversions(reader)?;
+    reader.expect(&Tok::RightBrace)?;
+    Ok(Extern {
+        location,
+        error,
+        token,
+        conversions,
+    })
+}
+
+/// `type Location = T;` and `type Error = T;`, each of which may be there.
+fn associated_types<'i>(
+    reader: &mut Reader<'_, 'i>,
+) -> Read<'i, (Option<TypeRepr>, Option<TypeRepr>)> {
+    if !reader.passes(&Tok::TypeWord) {
+        return Ok((None, None));
     }
+    if reader.passes(&Tok::Id(ERROR)) {
+        return Ok((None, Some(associated_type(reader)?)));
+    }
+    reader.expect(&Tok::Id(LOCATION))?;
+    let location = associated_type(reader)?;
+    if !reader.passes(&Tok::TypeWord) {
+        return Ok((Some(location), None));
+    }
+    reader.expect(&Tok::Id(ERROR))?;
+    let error = associated_type(reader)?;
+    Ok((Some(location), Some(error)))
+}
 
-    fn terminal(&mut self) -> Read<'i, TerminalString> {
-        match self.peek() {
-            Some(Tok::StringLiteral(literal)) => {
-                let name = TerminalString::Quoted(self.escaped(literal)?);
-                self.pass();
-                Ok(name)
-            }
-            Some(Tok::Id(name)) => {
-                let name = TerminalString::Bare(self.text(name)?);
-                self.pass();
-                Ok(name)
-            }
-            _ => Err(self.error()),
+/// What follows the name of an associated type.
+fn associated_type<'i>(reader: &mut Reader<'_, 'i>) -> Read<'i, TypeRepr> {
+    reader.expect(&Tok::Equals)?;
+    let ty = reader.full_type()?;
+    reader.expect(&Tok::Semi)?;
+    Ok(ty)
+}
+
+/// What follows the `{` of `enum`: terminals with their patterns between commas, and `}`.
+fn conversions<'i>(reader: &mut Reader<'_, 'i>) -> Read<'i, Items<PlainTerminal>> {
+    let mut conversions = Items::new(reader.alloc);
+    for _ in 0..reader.turns() {
+        if reader.is_next(&Tok::RightBrace) {
+            break;
         }
+        conversions.0.push(conversion(reader)?)?;
+        if !reader.passes(&Tok::Comma) {
+            break;
+        }
+    }
+    reader.expect(&Tok::RightBrace)?;
+    Ok(conversions)
+}
+
+fn conversion<'i>(reader: &mut Reader<'_, 'i>) -> Read<'i, PlainTerminal> {
+    let place = reader.place();
+    let name = terminal(reader)?;
+    match reader.peek() {
+        Some(Tok::EqualsGreaterThanCode(_)) => reader.pass(),
+        _ => return Err(reader.error()),
+    }
+    let pattern = token_pattern(reader)?;
+    Ok(PlainTerminal {
+        name,
+        pattern,
+        place,
+    })
+}
+
+fn terminal<'i>(reader: &mut Reader<'_, 'i>) -> Read<'i, TerminalString> {
+    match reader.peek() {
+        Some(Tok::StringLiteral(literal)) => {
+            let name = TerminalString::Quoted(escaped(reader, literal)?);
+            reader.pass();
+            Ok(name)
+        }
+        Some(Tok::Id(name)) => {
+            let name = TerminalString::Bare(Text::from_str(reader.alloc, name)?);
+            reader.pass();
+            Ok(name)
+        }
+        _ => Err(reader.error()),
     }
 }

@@ -1,11 +1,10 @@
 //! Patterns of tokens, as the text that is printed for them.
 
-use crate::error::PlainError;
-use crate::reader::{MOST_DEPTH, Read, Reader};
 use lp_repr::parse_tree::Path;
 use lp_repr::repr::{TokenPattern, TypeRepr};
 use lp_repr::text::{Items, Text};
 use lp_tok::Tok;
+use lp_types::{MOST_DEPTH, PlainError, Read, Reader};
 use std::alloc::AllocError;
 use std::mem;
 
@@ -17,100 +16,102 @@ pub struct PatternText {
     last: String,
 }
 
-impl<'a, 'i> Reader<'a, 'i> {
-    /// A pattern.
-    pub fn token_pattern(&mut self) -> Read<'i, TokenPattern> {
-        let mut text = PatternText {
-            pieces: Items::new(self.alloc),
-            holes: Items::new(self.alloc),
-            last: String::new(self.alloc),
-        };
-        self.pattern(&mut text, MOST_DEPTH)?;
-        let PatternText {
-            mut pieces,
-            holes,
-            last,
-        } = text;
-        pieces.0.push(Text(last))?;
-        Ok(TokenPattern { pieces, holes })
-    }
+/// A pattern.
+pub fn token_pattern<'i>(reader: &mut Reader<'_, 'i>) -> Read<'i, TokenPattern> {
+    let mut text = PatternText {
+        pieces: Items::new(reader.alloc),
+        holes: Items::new(reader.alloc),
+        last: String::new(reader.alloc),
+    };
+    pattern(reader, &mut text, MOST_DEPTH)?;
+    let PatternText {
+        mut pieces,
+        holes,
+        last,
+    } = text;
+    pieces.0.push(Text(last))?;
+    Ok(TokenPattern { pieces, holes })
+}
 
-    /// A pattern that nests at most so deep.
-    #[cycle(pattern_reading)]
-    fn pattern(&mut self, text: &mut PatternText, depth: usize) -> Read<'i, ()> {
-        let Some(depth) = depth.checked_sub(1) else {
-            return Err(PlainError::Memory);
-        };
-        match self.peek() {
-            Some(Tok::LeftParen) => {
-                self.pass();
-                self.patterns(text, depth)
-            }
-            Some(Tok::LessThan) => {
-                self.pass();
-                self.hole(text)
-            }
-            Some(Tok::Underscore) => {
-                self.pass();
-                Ok(text.last.push_str("_")?)
-            }
-            Some(Tok::DotDot) => {
-                self.pass();
-                Ok(text.last.push_str("..")?)
-            }
-            Some(Tok::StringLiteral(literal)) => {
-                self.pass();
-                Ok(text.push_quoted("\"", literal)?)
-            }
-            Some(Tok::CharLiteral(literal)) => {
-                self.pass();
-                Ok(text.push_quoted("'", literal)?)
-            }
-            _ => self.path_pattern(text, depth),
+/// A pattern that nests at most so deep.
+#[cycle(pattern_reading)]
+fn pattern<'i>(reader: &mut Reader<'_, 'i>, text: &mut PatternText, depth: usize) -> Read<'i, ()> {
+    let Some(depth) = depth.checked_sub(1) else {
+        return Err(PlainError::Memory);
+    };
+    match reader.peek() {
+        Some(Tok::LeftParen) => {
+            reader.pass();
+            patterns(reader, text, depth)
+        }
+        Some(Tok::LessThan) => {
+            reader.pass();
+            hole(reader, text)
+        }
+        Some(Tok::Underscore) => {
+            reader.pass();
+            Ok(text.last.push_str("_")?)
+        }
+        Some(Tok::DotDot) => {
+            reader.pass();
+            Ok(text.last.push_str("..")?)
+        }
+        Some(Tok::StringLiteral(literal)) => {
+            reader.pass();
+            Ok(text.push_quoted("\"", literal)?)
+        }
+        Some(Tok::CharLiteral(literal)) => {
+            reader.pass();
+            Ok(text.push_quoted("'", literal)?)
+        }
+        _ => path_pattern(reader, text, depth),
+    }
+}
+
+/// A path, or a path with patterns.
+#[cycle(pattern_reading)]
+fn path_pattern<'i>(
+    reader: &mut Reader<'_, 'i>,
+    text: &mut PatternText,
+    depth: usize,
+) -> Read<'i, ()> {
+    let path = reader.path(false)?;
+    text.push_path(&path)?;
+    if reader.passes(&Tok::LeftParen) {
+        patterns(reader, text, depth)?;
+    }
+    Ok(())
+}
+
+/// Patterns between commas, up to `)`.
+#[cycle(pattern_reading)]
+fn patterns<'i>(reader: &mut Reader<'_, 'i>, text: &mut PatternText, depth: usize) -> Read<'i, ()> {
+    text.last.push_str("(")?;
+    for number in 0..reader.turns() {
+        if reader.is_next(&Tok::RightParen) {
+            break;
+        }
+        if number > 0 {
+            text.last.push_str(", ")?;
+        }
+        pattern(reader, text, depth)?;
+        if !reader.passes(&Tok::Comma) {
+            break;
         }
     }
+    reader.expect(&Tok::RightParen)?;
+    text.last.push_str(")")?;
+    Ok(())
+}
 
-    /// A path, or a path with patterns.
-    #[cycle(pattern_reading)]
-    fn path_pattern(&mut self, text: &mut PatternText, depth: usize) -> Read<'i, ()> {
-        let path = self.path()?;
-        text.push_path(&path)?;
-        if self.passes(&Tok::LeftParen) {
-            self.patterns(text, depth)?;
-        }
-        Ok(())
-    }
-
-    /// Patterns between commas, up to `)`.
-    #[cycle(pattern_reading)]
-    fn patterns(&mut self, text: &mut PatternText, depth: usize) -> Read<'i, ()> {
-        text.last.push_str("(")?;
-        for number in 0..self.left() {
-            if self.is_next(&Tok::RightParen) {
-                break;
-            }
-            if number > 0 {
-                text.last.push_str(", ")?;
-            }
-            self.pattern(text, depth)?;
-            if !self.passes(&Tok::Comma) {
-                break;
-            }
-        }
-        self.expect(&Tok::RightParen)?;
-        text.last.push_str(")")?;
-        Ok(())
-    }
-
-    /// What follows `<`: the type of what is captured, and `>`.
-    fn hole(&mut self, text: &mut PatternText) -> Read<'i, ()> {
-        let ty = self.ty(MOST_DEPTH)?;
-        self.expect(&Tok::GreaterThan)?;
-        text.holes.0.push(ty)?;
-        let piece = mem::replace(&mut text.last, String::new(self.alloc));
-        text.pieces.0.push(Text(piece))?;
-        Ok(())
-    }
+/// What follows `<`: the type of what is captured, and `>`.
+fn hole<'i>(reader: &mut Reader<'_, 'i>, text: &mut PatternText) -> Read<'i, ()> {
+    let ty = reader.full_type()?;
+    reader.expect(&Tok::GreaterThan)?;
+    text.holes.0.push(ty)?;
+    let piece = mem::replace(&mut text.last, String::new(reader.alloc));
+    text.pieces.0.push(Text(piece))?;
+    Ok(())
 }
 
 impl PatternText {

@@ -1,11 +1,10 @@
 //! Rules, alternatives and symbols.
 
-use crate::error::{ParseError, PlainError};
-use crate::reader::{MOST_DEPTH, Read, Reader};
 use lp_repr::repr::NonterminalString;
 use lp_repr::text::{Items, Text};
 use lp_syntax::{PlainAlternative, PlainKind, PlainRule, PlainSymbol};
 use lp_tok::{EscapeError, Tok, apply_string_escapes};
+use lp_types::{Kind, ParseError, PlainError, Read, Reader};
 
 /// How a rule stands.
 #[derive(Clone, Copy, PartialEq, Eq)]
@@ -15,157 +14,155 @@ pub enum How {
     Inline,
 }
 
-impl<'a, 'i> Reader<'a, 'i> {
-    /// A rule, from its name on.
-    pub fn rule(&mut self, how: How) -> Read<'i, PlainRule> {
-        let place = self.place();
-        let name = self.id()?;
-        self.expect(&Tok::Colon)?;
-        let ty = self.ty(MOST_DEPTH)?;
-        self.expect(&Tok::Equals)?;
-        let alternatives = if self.passes(&Tok::LeftBrace) {
-            self.alternatives()?
-        } else {
-            let alternative = self.alternative()?;
-            self.expect(&Tok::Semi)?;
-            Items(vec![in self.alloc; alternative]?)
-        };
-        Ok(PlainRule {
-            public: how == How::Public,
-            inline: how == How::Inline,
-            name: NonterminalString(self.text(name)?),
-            ty,
-            alternatives,
-            place,
-        })
-    }
+/// A rule, from its name on.
+pub fn rule<'i>(reader: &mut Reader<'_, 'i>, how: How) -> Read<'i, PlainRule> {
+    let place = reader.place();
+    let name = reader.text(Kind::Id)?;
+    reader.expect(&Tok::Colon)?;
+    let ty = reader.full_type()?;
+    reader.expect(&Tok::Equals)?;
+    let alternatives = if reader.passes(&Tok::LeftBrace) {
+        alternatives(reader)?
+    } else {
+        let alternative = alternative(reader)?;
+        reader.expect(&Tok::Semi)?;
+        Items(vec![in reader.alloc; alternative]?)
+    };
+    Ok(PlainRule {
+        public: how == How::Public,
+        inline: how == How::Inline,
+        name: NonterminalString(Text::from_str(reader.alloc, name)?),
+        ty,
+        alternatives,
+        place,
+    })
+}
 
-    /// What follows `{`: alternatives between commas, `}`, and a `;` that may be there.
-    fn alternatives(&mut self) -> Read<'i, Items<PlainAlternative>> {
-        let mut alternatives = Items::new(self.alloc);
-        for _ in 0..self.left() {
-            if self.is_next(&Tok::RightBrace) {
+/// What follows `{`: alternatives between commas, `}`, and a `;` that may be there.
+fn alternatives<'i>(reader: &mut Reader<'_, 'i>) -> Read<'i, Items<PlainAlternative>> {
+    let mut alternatives = Items::new(reader.alloc);
+    for _ in 0..reader.turns() {
+        if reader.is_next(&Tok::RightBrace) {
+            break;
+        }
+        alternatives.0.push(alternative(reader)?)?;
+        if !reader.passes(&Tok::Comma) {
+            break;
+        }
+    }
+    reader.expect(&Tok::RightBrace)?;
+    reader.passes(&Tok::Semi);
+    Ok(alternatives)
+}
+
+/// `()` or symbols, and then an arrow with its code.
+fn alternative<'i>(reader: &mut Reader<'_, 'i>) -> Read<'i, PlainAlternative> {
+    let mut symbols = Items::new(reader.alloc);
+    if reader.passes(&Tok::LeftParen) {
+        reader.expect(&Tok::RightParen)?;
+    } else {
+        symbols.0.push(symbol(reader)?)?;
+        for _ in 0..reader.turns() {
+            if is_arrow(reader) {
                 break;
             }
-            alternatives.0.push(self.alternative()?)?;
-            if !self.passes(&Tok::Comma) {
-                break;
-            }
-        }
-        self.expect(&Tok::RightBrace)?;
-        self.passes(&Tok::Semi);
-        Ok(alternatives)
-    }
-
-    /// `()` or symbols, and then an arrow with its code.
-    fn alternative(&mut self) -> Read<'i, PlainAlternative> {
-        let mut symbols = Items::new(self.alloc);
-        if self.passes(&Tok::LeftParen) {
-            self.expect(&Tok::RightParen)?;
-        } else {
-            symbols.0.push(self.symbol()?)?;
-            for _ in 0..self.left() {
-                if self.is_arrow() {
-                    break;
-                }
-                symbols.0.push(self.symbol()?)?;
-            }
-        }
-        match self.peek() {
-            Some(Tok::EqualsGreaterThanCode(code)) => {
-                self.pass();
-                self.alternative_of(symbols, false, code)
-            }
-            Some(Tok::EqualsGreaterThanQuestionCode(code)) => {
-                self.pass();
-                self.alternative_of(symbols, true, code)
-            }
-            _ => Err(self.error()),
+            symbols.0.push(symbol(reader)?)?;
         }
     }
-
-    fn is_arrow(&self) -> bool {
-        match self.peek() {
-            Some(Tok::EqualsGreaterThanCode(_) | Tok::EqualsGreaterThanQuestionCode(_)) => true,
-            _ => false,
+    match reader.peek() {
+        Some(Tok::EqualsGreaterThanCode(code)) => {
+            reader.pass();
+            alternative_of(reader, symbols, false, code)
         }
+        Some(Tok::EqualsGreaterThanQuestionCode(code)) => {
+            reader.pass();
+            alternative_of(reader, symbols, true, code)
+        }
+        _ => Err(reader.error()),
     }
+}
 
-    fn alternative_of(
-        &self,
-        symbols: Items<PlainSymbol>,
-        fallible: bool,
-        code: &str,
-    ) -> Read<'i, PlainAlternative> {
-        Ok(PlainAlternative {
-            symbols,
-            fallible,
-            code: self.text(code.trim())?,
-        })
+fn is_arrow<'i>(reader: &Reader<'_, 'i>) -> bool {
+    match reader.peek() {
+        Some(Tok::EqualsGreaterThanCode(_) | Tok::EqualsGreaterThanQuestionCode(_)) => true,
+        _ => false,
     }
+}
 
-    /// A symbol, which may be bound to a name.
-    fn symbol(&mut self) -> Read<'i, PlainSymbol> {
-        if !self.passes(&Tok::LessThan) {
-            let name = self.text("_")?;
-            return self.bare_symbol(name);
-        }
-        let mut name = String::new(self.alloc);
-        if self.passes(&Tok::Mut) {
-            name.push_str("mut ")?;
-        }
-        name.push_str(self.id()?)?;
-        self.expect(&Tok::Colon)?;
-        let symbol = self.bare_symbol(Text(name))?;
-        self.expect(&Tok::GreaterThan)?;
-        Ok(symbol)
+fn alternative_of<'i>(
+    reader: &Reader<'_, 'i>,
+    symbols: Items<PlainSymbol>,
+    fallible: bool,
+    code: &str,
+) -> Read<'i, PlainAlternative> {
+    Ok(PlainAlternative {
+        symbols,
+        fallible,
+        code: Text::from_str(reader.alloc, code.trim())?,
+    })
+}
+
+/// A symbol, which may be bound to a name.
+fn symbol<'i>(reader: &mut Reader<'_, 'i>) -> Read<'i, PlainSymbol> {
+    if !reader.passes(&Tok::LessThan) {
+        let name = Text::from_str(reader.alloc, "_")?;
+        return bare_symbol(reader, name);
     }
-
-    /// A symbol itself, bound to this name.
-    fn bare_symbol(&mut self, name: Text) -> Read<'i, PlainSymbol> {
-        let place = self.place();
-        let kind = self.kind()?;
-        Ok(PlainSymbol { name, kind, place })
+    let mut name = String::new(reader.alloc);
+    if reader.passes(&Tok::Mut) {
+        name.push_str("mut ")?;
     }
+    name.push_str(reader.text(Kind::Id)?)?;
+    reader.expect(&Tok::Colon)?;
+    let symbol = bare_symbol(reader, Text(name))?;
+    reader.expect(&Tok::GreaterThan)?;
+    Ok(symbol)
+}
 
-    fn kind(&mut self) -> Read<'i, PlainKind> {
-        match self.peek() {
-            Some(Tok::Id(name)) => {
-                let kind = PlainKind::Name(self.text(name)?);
-                self.pass();
-                Ok(kind)
-            }
-            Some(Tok::StringLiteral(literal)) => {
-                let kind = PlainKind::Terminal(self.escaped(literal)?);
-                self.pass();
-                Ok(kind)
-            }
-            Some(Tok::Lookahead) => {
-                self.pass();
-                Ok(PlainKind::Lookahead)
-            }
-            Some(Tok::Lookbehind) => {
-                self.pass();
-                Ok(PlainKind::Lookbehind)
-            }
-            Some(Tok::Bang) => {
-                self.pass();
-                Ok(PlainKind::Error)
-            }
-            _ => Err(self.error()),
+/// A symbol itself, bound to this name.
+fn bare_symbol<'i>(reader: &mut Reader<'_, 'i>, name: Text) -> Read<'i, PlainSymbol> {
+    let place = reader.place();
+    let kind = kind(reader)?;
+    Ok(PlainSymbol { name, kind, place })
+}
+
+fn kind<'i>(reader: &mut Reader<'_, 'i>) -> Read<'i, PlainKind> {
+    match reader.peek() {
+        Some(Tok::Id(name)) => {
+            let kind = PlainKind::Name(Text::from_str(reader.alloc, name)?);
+            reader.pass();
+            Ok(kind)
         }
+        Some(Tok::StringLiteral(literal)) => {
+            let kind = PlainKind::Terminal(escaped(reader, literal)?);
+            reader.pass();
+            Ok(kind)
+        }
+        Some(Tok::Lookahead) => {
+            reader.pass();
+            Ok(PlainKind::Lookahead)
+        }
+        Some(Tok::Lookbehind) => {
+            reader.pass();
+            Ok(PlainKind::Lookbehind)
+        }
+        Some(Tok::Bang) => {
+            reader.pass();
+            Ok(PlainKind::Error)
+        }
+        _ => Err(reader.error()),
     }
+}
 
-    /// The text of the string literal that is the next token, its escapes applied.
-    pub fn escaped(&self, literal: &'i str) -> Read<'i, Text> {
-        let place = self.place().saturating_add(1);
-        if place > usize::MAX - literal.len() {
-            return Err(self.error());
-        }
-        match apply_string_escapes(self.alloc, literal, place) {
-            Ok(text) => Ok(Text(text.into_owned(self.alloc)?)),
-            Err(EscapeError::Bad(error)) => Err(PlainError::Parse(ParseError::User { error })),
-            Err(EscapeError::Memory) => Err(PlainError::Memory),
-        }
+/// The text of the string literal that is the next token, its escapes applied.
+pub fn escaped<'i>(reader: &Reader<'_, 'i>, literal: &'i str) -> Read<'i, Text> {
+    let place = reader.place().saturating_add(1);
+    if place > usize::MAX - literal.len() {
+        return Err(reader.error());
+    }
+    match apply_string_escapes(reader.alloc, literal, place) {
+        Ok(text) => Ok(Text(text.into_owned(reader.alloc)?)),
+        Err(EscapeError::Bad(error)) => Err(PlainError::Parse(ParseError::User { error })),
+        Err(EscapeError::Memory) => Err(PlainError::Memory),
     }
 }

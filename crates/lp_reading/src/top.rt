@@ -2,13 +2,13 @@
 
 ghost use Rattle.std.specs.Prelude.{◌+◌, ◌^◌, ◌<◌, length};
 
-use crate::error::PlainError;
-use crate::reader::{MOST_DEPTH, Read, Reader};
-use crate::tokens::Tokens;
+use crate::read_grammar::grammar;
+use crate::read_pattern::token_pattern;
 use lp_repr::repr::{TokenPattern, TypeRepr, WhereClause};
 use lp_repr::text::Text;
 use lp_syntax::PlainGrammar;
 use lp_tok::Tok;
+use lp_types::{PlainError, Read, Reader, Tokens};
 use std::alloc::{AllocError, Global};
 
 /// What a text is read as.
@@ -28,7 +28,7 @@ pub fn parse_grammar(alloc: Global, input: &str) -> Result<PlainGrammar, PlainEr
     let prefix = free_prefix(alloc, input)?;
     let tokens = Tokens::new(alloc, input, 0)?;
     let mut reader = Reader::new(alloc, &tokens, input.len());
-    reader.grammar(prefix)
+    grammar(&mut reader, prefix)
 }
 
 /// The grammar, pattern, type or `where` with its clauses, as `first` names it, that a text
@@ -49,13 +49,16 @@ pub fn parse_top<'i>(
 
 fn read_top<'i>(reader: &mut Reader<'_, 'i>, first: &Tok<'_>) -> Read<'i, Top> {
     let top = match first {
-        Tok::StartPattern => Top::Pattern(reader.token_pattern()?),
-        Tok::StartTypeRef => Top::TypeRef(reader.ty(MOST_DEPTH)?),
+        Tok::StartPattern => Top::Pattern(token_pattern(reader)?),
+        Tok::StartTypeRef => Top::TypeRef(reader.full_type()?),
         Tok::StartGrammarWhereClauses => {
             reader.expect(&Tok::Where)?;
-            Top::GrammarWhereClauses(reader.where_clauses()?)
+            Top::GrammarWhereClauses(reader.clauses()?)
         }
-        _ => Top::Grammar(reader.grammar(reader.text("__")?)?),
+        _ => {
+            let prefix = Text::from_str(reader.alloc, "__")?;
+            Top::Grammar(grammar(reader, prefix)?)
+        }
     };
     reader.expect_end()?;
     Ok(top)
