@@ -1,5 +1,6 @@
 -- Readings: what stands at the front of the tokens that are left, put together from its parts.
 use Rattle.std.specs.Prelude.{◌≡◌, ℕ, Bool, true, false, List, [], ◌∷◌, ◌++◌, Option, Some, None, Result, Ok, Err, zero, suc}
+use Rattle.std.specs.Str.{bytes_eq}
 use Rattle.lp_repr.specs.declared.values.ParseError.{ParseError}
 use Rattle.lp_tok.specs.declared.tok.Error.{Error}
 use Rattle.lp_tok.specs.declared.tok.Tok.{Tok}
@@ -7,6 +8,7 @@ use Rattle.lp_tok.specs.declared.tok.Tok.TheVariants.{Comma}
 use Rattle.lp_types.specs.declared.error.PlainError.{PlainError}
 use Rattle.lp_types.specs.declared.error.PlainError.TheVariants.{Parse, Memory}
 use Rattle.lp_types.specs.declared.reader.Kind.{Kind}
+use Rattle.lp_types.specs.declared.reader.Kind.TheVariants as kind
 use Rattle.lp_types.specs.Left.{Left, next, after, place, stop, failure, size, is_end, is_tok, text_of}
 
 -- the tokens begin with what means x, and the rest follows; or they begin with nothing of the kind, which
@@ -68,6 +70,19 @@ where_next t p q = passed t >>= λ b. choose b p q
 -- this token
 unfoldable pub expected : Tok → Reading (Unit {0})
 expected t = where_next t (give tt) fail
+
+-- whether the text of a name is this one
+abbrev pub is_word : List ℕ → Option (List ℕ) → Bool
+is_word word None = false
+is_word word (Some name) = bytes_eq name word
+
+-- whether this name comes next, which is passed
+unfoldable pub passed_word : List ℕ → Reading Bool
+passed_word word ts = passed_if (is_word word (text_of kind.Id (next ts))) ts
+
+-- this name
+unfoldable pub expected_word : List ℕ → Reading (Unit {0})
+expected_word word = passed_word word >>= λ b. choose b (give tt) fail
 
 -- the place of the next token
 unfoldable pub next_place : Reading ℕ

@@ -4,7 +4,7 @@ ghost use Rattle.std.specs.Prelude.{◌≡◌, suc, IfOk};
 ghost use Rattle.std.specs.Option.{option_copied, option_map};
 ghost use Rattle.lp_types.specs.Clauses.{goes_on};
 ghost use Rattle.lp_types.specs.Left.{failure, is_end, left, left_of, next, place, size, stop, after, is_tok, text_of, texted, unrecognized};
-ghost use Rattle.lp_types.specs.Reading.{Answers, IsError, Read, at_end, expected, next_place, next_stop, passed, seen, seen_text, taken, taken_where, text};
+ghost use Rattle.lp_types.specs.Reading.{Answers, IsError, Read, at_end, expected, expected_word, is_word, passed_word, next_place, next_stop, passed, seen, seen_text, taken, taken_where, text};
 
 use crate::error::{ParseError, PlainError};
 use crate::tokens::Tokens;
@@ -227,6 +227,39 @@ impl<'a, 'i> Reader<'a, 'i> {
             self.pass();
         }
         is_next
+    }
+
+    /// Whether the next token is this name.
+    fn is_word(&self, word: &str) -> bool
+        ensures { result ≡ is_word word.now (text_of Kind.Id (next (left self.now))) }
+    {
+        match self.text_next(Kind::Id) {
+            None => false,
+            Some(text) => text == word,
+        }
+    }
+
+    /// Passes this name, if it is the next token.
+    #[tactic(auto, unfolding(crate::specs::Reading::passed_word))]
+    pub fn passes_word(&mut self, word: &str) -> bool
+        ensures { passed_word word.now (left self.old) ≡ Read result (left self.new) }
+    {
+        let is_there = self.is_word(word);
+        if is_there {
+            self.pass();
+        }
+        is_there
+    }
+
+    /// Passes this name.
+    pub fn expect_word(&mut self, word: &str) -> Read<'i, ()>
+        ensures { Answers (λ _. tt) (expected_word word.now (left self.old)) result (left self.new) }
+    {
+        if self.passes_word(word) {
+            Ok(())
+        } else {
+            Err(self.error())
+        }
     }
 
     /// Passes a token of this kind, if it is the next one, and gives its text.
