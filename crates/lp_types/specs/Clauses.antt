@@ -1,5 +1,5 @@
 -- Where clauses.
-use Rattle.std.specs.Prelude.{ℕ, Bool, true, false, List, [], ◌∷◌, Option, Some, None, Vec, Bor}
+use Rattle.std.specs.Prelude.{ℕ, Bool, true, false, not, List, [], ◌∷◌, Option, Some, None, Vec, Bor}
 use Rattle.std.specs.Option.{option_map}
 use Rattle.std.specs.Global.{Global}
 use Rattle.lp_repr.specs.declared.parse_tree.TypeParameter.{TypeParameter}
@@ -55,14 +55,10 @@ unfoldable pub clause : Reading (List ClauseTree)
 clause = taken kind.Lifetime >>= lifetime_or_type_clauses
 
 -- whether another clause can follow: neither `;` nor the end of the text comes
-abbrev pub is_other : Bool → Bool
-is_other true = false
-is_other false = true
-
 abbrev pub goes_on : Left → Bool
 goes_on (ends n) = false
 goes_on (breaks e) = true
-goes_on (token from t to rest) = is_other (is_tok Semi (Some t))
+goes_on (token from t to rest) = not (is_tok Semi (Some t))
 
 abbrev pub seen_more : Reading Bool
 seen_more ts = Read (goes_on ts) ts

@@ -1,7 +1,7 @@
 //! Where clauses.
 
 ghost use Rattle.std.specs.Prelude.{◌≡◌, IfOk, None, map, string_bytes};
-ghost use Rattle.lp_repr.specs.TypeTrees.{bound_clause, bound_tree, clause_tree, lifetime_type, type_tree};
+ghost use Rattle.lp_repr.specs.TypeTrees.{bound_clause, bound_tree, clause_tree, forall_clause, lifetime_type, type_tree};
 ghost use Rattle.lp_types.specs.Clauses.{bound_clauses, clause, clauses, in_binder, lifetime_bound, linked_bound, linked_clause, more_clauses, names_of, other_clauses, subject_clauses, type_clauses};
 ghost use Rattle.lp_types.specs.Left.{left};
 ghost use Rattle.lp_types.specs.Reading.{Answers, Read, choose, chained_by};
@@ -166,19 +166,41 @@ fn clause_in(
 ) -> Result<WhereClause, AllocError>
     ensures { IfOk result (λ c. clause_tree c ≡ in_binder (names_of names.entry) (bound_clause (type_tree subject.now) (bound_tree bound))) }
 {
-    let subject = subject.clone()?;
-    let clause = WhereClause::Bound { subject, bound };
+    let clause = plain_clause(subject, bound)?;
     match names {
         None => Ok(clause),
-        Some(names) => {
-            let binder = copy_names(names)?;
-            let boxed = Box::new(alloc, clause)?;
-            Ok(WhereClause::Forall {
-                binder,
-                clause: boxed,
-            })
+        Some(binder) => {
+            let inside = forall(alloc, binder, clause)?;
+            Ok(inside)
         }
     }
+}
+
+/// The clause of a bound.
+fn plain_clause(subject: &TypeRepr, bound: TypeBound<TypeRepr>) -> Result<WhereClause, AllocError>
+    ensures { IfOk result (λ c. clause_tree c ≡ bound_clause (type_tree subject.now) (bound_tree bound)) }
+{
+    let copy = subject.clone()?;
+    Ok(WhereClause::Bound {
+        subject: copy,
+        bound,
+    })
+}
+
+/// A clause in a binder.
+fn forall(
+    alloc: Global,
+    names: &Vec<TypeParameter>,
+    clause: WhereClause,
+) -> Result<WhereClause, AllocError>
+    ensures { IfOk result (λ c. clause_tree c ≡ forall_clause names.now.items (clause_tree clause)) }
+{
+    let binder = copy_names(names)?;
+    let boxed = Box::new(alloc, clause)?;
+    Ok(WhereClause::Forall {
+        binder,
+        clause: boxed,
+    })
 }
 
 fn copy_names(names: &Vec<TypeParameter>) -> Result<Vec<TypeParameter>, AllocError>

@@ -66,7 +66,8 @@ fn texted<'i>(token: &Tok<'i>) -> Option<(Kind, &'i str)>
 fn copied<'i>(token: &Tok<'i>) -> Result<Tok<'i>, AllocError>
     ensures { IfOk result (λ copy. copy ≡ token.now) }
 {
-    token.clone()
+    let copy = token.clone()?;
+    Ok(copy)
 }
 
 /// The error of a token that goes on nothing.
@@ -330,7 +331,10 @@ impl<'a, 'i> Reader<'a, 'i> {
         ensures { IfOk result (λ e. e ≡ failure (left self.now)) }
     {
         match self.rest.first() {
-            Some(spanned) => unrecognized(self.alloc, spanned),
+            Some(spanned) => {
+                let error = unrecognized(self.alloc, spanned)?;
+                Ok(error)
+            }
             None => match self.error {
                 Some(error) => Ok(ParseError::User { error }),
                 None => Ok(ParseError::UnrecognizedEof {
