@@ -3,9 +3,13 @@
 
 mod bytes;
 mod generated;
+mod read_extern;
 mod read_grammar;
+mod read_head;
+mod read_literal;
 mod read_pattern;
 mod read_rule;
+mod read_symbol;
 mod report;
 mod top;
 

@@ -1,168 +1,164 @@
-//! Rules, alternatives and symbols.
+//! Rules.
 
+ghost use Rattle.std.specs.Prelude.{◌≡◌, [], ◌∷◌, IfOk, map};
+ghost use Rattle.std.specs.Option.{option_map};
+ghost use Rattle.lp_reading.specs.Rules.{alternatives, braced, inline_rule, next_rule, private_rule, rule, rule_body, rule_tree, rules, single, some_rule};
+ghost use Rattle.lp_reading.specs.Symbols.{alternative};
+ghost use Rattle.lp_tok.specs.declared.tok.Tok.TheVariants.{RightBrace};
+ghost use Rattle.lp_types.specs.Left.{left};
+ghost use Rattle.lp_types.specs.Reading.{Answers, listed};
+
+use crate::read_symbol::alternative;
+use lp_repr::consts::INLINE;
 use lp_repr::repr::NonterminalString;
 use lp_repr::text::{Items, Text};
-use lp_syntax::{PlainAlternative, PlainKind, PlainRule, PlainSymbol};
-use lp_tok::{EscapeError, Tok, apply_string_escapes};
-use lp_types::{Kind, ParseError, PlainError, Read, Reader};
+use lp_syntax::{PlainAlternative, PlainRule};
+use lp_tok::Tok;
+use lp_types::{Kind, Read, Reader};
+use std::alloc::{AllocError, Global};
 
-/// How a rule stands.
-#[derive(Clone, Copy, PartialEq, Eq)]
-pub enum How {
-    Private,
-    Public,
-    Inline,
+/// Rules, up to a token that begins none.
+pub fn rules<'i>(reader: &mut Reader<'_, 'i>) -> Read<'i, Vec<PlainRule>>
+    ensures { Answers (λ v. map rule_tree v.items) (rules (left reader.old)) result (left reader.new) }
+{
+    let mut rules = Vec::new(reader.alloc);
+    for turn in 0..reader.turns() {
+        match next_rule(reader)? {
+            None => return Ok(rules),
+            Some(rule) => rules.push(rule)?,
+        }
+    }
+    Err(reader.error())
 }
 
-/// A rule, from its name on.
-pub fn rule<'i>(reader: &mut Reader<'_, 'i>, how: How) -> Read<'i, PlainRule> {
-    let place = reader.place();
-    let name = reader.text(Kind::Id)?;
+/// The next rule, with `#[inline]`, `pub` or nothing before it, or none where no rule begins.
+fn next_rule<'i>(reader: &mut Reader<'_, 'i>) -> Read<'i, Option<PlainRule>>
+    ensures { Answers (option_map rule_tree) (next_rule (left reader.old)) result (left reader.new) }
+{
+    let is_marked = reader.passes(&Tok::Hash);
+    if is_marked {
+        return inline_rule(reader);
+    }
+    let is_public = reader.passes(&Tok::Pub);
+    if is_public {
+        return some_rule(reader, true, false);
+    }
+    private_rule(reader)
+}
+
+/// What follows the `#` of `#[inline]`, and its rule.
+fn inline_rule<'i>(reader: &mut Reader<'_, 'i>) -> Read<'i, Option<PlainRule>>
+    ensures { Answers (option_map rule_tree) (inline_rule (left reader.old)) result (left reader.new) }
+{
+    reader.expect(&Tok::LeftBracket)?;
+    reader.expect_word(INLINE)?;
+    reader.expect(&Tok::RightBracket)?;
+    some_rule(reader, false, true)
+}
+
+/// A rule with nothing before it, or none where no name comes.
+fn private_rule<'i>(reader: &mut Reader<'_, 'i>) -> Read<'i, Option<PlainRule>>
+    ensures { Answers (option_map rule_tree) (private_rule (left reader.old)) result (left reader.new) }
+{
+    match reader.seen_text(Kind::Id) {
+        Some(_) => some_rule(reader, false, false),
+        None => Ok(None),
+    }
+}
+
+/// A rule, where one comes.
+fn some_rule<'i>(
+    reader: &mut Reader<'_, 'i>,
+    public: bool,
+    inline: bool,
+) -> Read<'i, Option<PlainRule>>
+    ensures { Answers (option_map rule_tree) (some_rule public inline (left reader.old)) result (left reader.new) }
+{
+    let found = rule(reader, public, inline)?;
+    Ok(Some(found))
+}
+
+/// A rule from its name on: whether `pub` or `#[inline]` stands before it is known.
+fn rule<'i>(reader: &mut Reader<'_, 'i>, public: bool, inline: bool) -> Read<'i, PlainRule>
+    ensures { Answers rule_tree (rule public inline (left reader.old)) result (left reader.new) }
+{
+    let place = reader.next_place();
+    let id = reader.text(Kind::Id)?;
     reader.expect(&Tok::Colon)?;
     let ty = reader.full_type()?;
     reader.expect(&Tok::Equals)?;
-    let alternatives = if reader.passes(&Tok::LeftBrace) {
-        alternatives(reader)?
-    } else {
-        let alternative = alternative(reader)?;
-        reader.expect(&Tok::Semi)?;
-        Items(vec![in reader.alloc; alternative]?)
-    };
+    let alternatives = rule_body(reader)?;
+    let name = Text::from_str(reader.alloc, id)?;
     Ok(PlainRule {
-        public: how == How::Public,
-        inline: how == How::Inline,
-        name: NonterminalString(Text::from_str(reader.alloc, name)?),
+        public,
+        inline,
+        name: NonterminalString(name),
         ty,
-        alternatives,
+        alternatives: Items(alternatives),
         place,
     })
 }
 
-/// What follows `{`: alternatives between commas, `}`, and a `;` that may be there.
-fn alternatives<'i>(reader: &mut Reader<'_, 'i>) -> Read<'i, Items<PlainAlternative>> {
-    let mut alternatives = Items::new(reader.alloc);
-    for _ in 0..reader.turns() {
-        if reader.is_next(&Tok::RightBrace) {
-            break;
-        }
-        alternatives.0.push(alternative(reader)?)?;
-        if !reader.passes(&Tok::Comma) {
-            break;
-        }
-    }
-    reader.expect(&Tok::RightBrace)?;
-    reader.passes(&Tok::Semi);
-    Ok(alternatives)
-}
-
-/// `()` or symbols, and then an arrow with its code.
-fn alternative<'i>(reader: &mut Reader<'_, 'i>) -> Read<'i, PlainAlternative> {
-    let mut symbols = Items::new(reader.alloc);
-    if reader.passes(&Tok::LeftParen) {
-        reader.expect(&Tok::RightParen)?;
+/// What follows `=`: alternatives in braces, or one with `;`.
+fn rule_body<'i>(reader: &mut Reader<'_, 'i>) -> Read<'i, Vec<PlainAlternative>>
+    ensures { Answers (λ v. v.items) (rule_body (left reader.old)) result (left reader.new) }
+{
+    if reader.passes(&Tok::LeftBrace) {
+        braced(reader)
     } else {
-        symbols.0.push(symbol(reader)?)?;
-        for _ in 0..reader.turns() {
-            if is_arrow(reader) {
-                break;
-            }
-            symbols.0.push(symbol(reader)?)?;
-        }
-    }
-    match reader.peek() {
-        Some(Tok::EqualsGreaterThanCode(code)) => {
-            reader.pass();
-            alternative_of(reader, symbols, false, code)
-        }
-        Some(Tok::EqualsGreaterThanQuestionCode(code)) => {
-            reader.pass();
-            alternative_of(reader, symbols, true, code)
-        }
-        _ => Err(reader.error()),
+        single(reader)
     }
 }
 
-fn is_arrow<'i>(reader: &Reader<'_, 'i>) -> bool {
-    match reader.peek() {
-        Some(Tok::EqualsGreaterThanCode(_) | Tok::EqualsGreaterThanQuestionCode(_)) => true,
-        _ => false,
-    }
+/// One alternative and `;`.
+fn single<'i>(reader: &mut Reader<'_, 'i>) -> Read<'i, Vec<PlainAlternative>>
+    ensures { Answers (λ v. v.items) (single (left reader.old)) result (left reader.new) }
+{
+    let one = alternative(reader)?;
+    reader.expect(&Tok::Semi)?;
+    let list = only(reader.alloc, one)?;
+    Ok(list)
 }
 
-fn alternative_of<'i>(
-    reader: &Reader<'_, 'i>,
-    symbols: Items<PlainSymbol>,
-    fallible: bool,
-    code: &str,
-) -> Read<'i, PlainAlternative> {
-    Ok(PlainAlternative {
-        symbols,
-        fallible,
-        code: Text::from_str(reader.alloc, code.trim())?,
-    })
+fn only(alloc: Global, one: PlainAlternative) -> Result<Vec<PlainAlternative>, AllocError>
+    ensures { IfOk result (λ v. v.items ≡ one ∷ []) }
+{
+    let mut list = Vec::new(alloc);
+    list.push(one)?;
+    Ok(list)
 }
 
-/// A symbol, which may be bound to a name.
-fn symbol<'i>(reader: &mut Reader<'_, 'i>) -> Read<'i, PlainSymbol> {
-    if !reader.passes(&Tok::LessThan) {
-        let name = Text::from_str(reader.alloc, "_")?;
-        return bare_symbol(reader, name);
-    }
-    let mut name = String::new(reader.alloc);
-    if reader.passes(&Tok::Mut) {
-        name.push_str("mut ")?;
-    }
-    name.push_str(reader.text(Kind::Id)?)?;
-    reader.expect(&Tok::Colon)?;
-    let symbol = bare_symbol(reader, Text(name))?;
-    reader.expect(&Tok::GreaterThan)?;
-    Ok(symbol)
+/// What follows `{`: alternatives, `}`, and a `;` that may be there.
+fn braced<'i>(reader: &mut Reader<'_, 'i>) -> Read<'i, Vec<PlainAlternative>>
+    ensures { Answers (λ v. v.items) (braced (left reader.old)) result (left reader.new) }
+{
+    let found = alternatives(reader)?;
+    let _is_closed = reader.passes(&Tok::Semi);
+    Ok(found)
 }
 
-/// A symbol itself, bound to this name.
-fn bare_symbol<'i>(reader: &mut Reader<'_, 'i>, name: Text) -> Read<'i, PlainSymbol> {
-    let place = reader.place();
-    let kind = kind(reader)?;
-    Ok(PlainSymbol { name, kind, place })
+/// Alternatives between commas, up to `}`.
+fn alternatives<'i>(reader: &mut Reader<'_, 'i>) -> Read<'i, Vec<PlainAlternative>>
+    ensures { Answers (λ v. v.items) (alternatives (left reader.old)) result (left reader.new) }
+{
+    let mut list = Vec::new(reader.alloc);
+    for turn in 0..reader.turns() {
+        match next_alternative(reader)? {
+            None => return Ok(list),
+            Some(found) => list.push(found)?,
+        }
+    }
+    Err(reader.error())
 }
 
-fn kind<'i>(reader: &mut Reader<'_, 'i>) -> Read<'i, PlainKind> {
-    match reader.peek() {
-        Some(Tok::Id(name)) => {
-            let kind = PlainKind::Name(Text::from_str(reader.alloc, name)?);
-            reader.pass();
-            Ok(kind)
-        }
-        Some(Tok::StringLiteral(literal)) => {
-            let kind = PlainKind::Terminal(escaped(reader, literal)?);
-            reader.pass();
-            Ok(kind)
-        }
-        Some(Tok::Lookahead) => {
-            reader.pass();
-            Ok(PlainKind::Lookahead)
-        }
-        Some(Tok::Lookbehind) => {
-            reader.pass();
-            Ok(PlainKind::Lookbehind)
-        }
-        Some(Tok::Bang) => {
-            reader.pass();
-            Ok(PlainKind::Error)
-        }
-        _ => Err(reader.error()),
+/// The next alternative, or none at `}`, which is passed.
+fn next_alternative<'i>(reader: &mut Reader<'_, 'i>) -> Read<'i, Option<PlainAlternative>>
+    ensures { Answers (λ o. o) (listed RightBrace alternative (left reader.old)) result (left reader.new) }
+{
+    if reader.passes(&Tok::RightBrace) {
+        return Ok(None);
     }
-}
-
-/// The text of the string literal that is the next token, its escapes applied.
-pub fn escaped<'i>(reader: &Reader<'_, 'i>, literal: &'i str) -> Read<'i, Text> {
-    let place = reader.place().saturating_add(1);
-    if place > usize::MAX - literal.len() {
-        return Err(reader.error());
-    }
-    match apply_string_escapes(reader.alloc, literal, place) {
-        Ok(text) => Ok(Text(text.into_owned(reader.alloc)?)),
-        Err(EscapeError::Bad(error)) => Err(PlainError::Parse(ParseError::User { error })),
-        Err(EscapeError::Memory) => Err(PlainError::Memory),
-    }
+    let found = alternative(reader)?;
+    reader.separates(&Tok::RightBrace)?;
+    Ok(Some(found))
 }

@@ -1,6 +1,10 @@
 //! The readers of whole texts.
 
-ghost use Rattle.std.specs.Prelude.{◌+◌, ◌^◌, ◌<◌, length};
+ghost use Rattle.std.specs.Prelude.{◌≡◌, ◌+◌, ◌^◌, ◌<◌, length};
+ghost use Rattle.lp_reading.specs.Grammars.{grammar, grammar_tree};
+ghost use Rattle.lp_reading.specs.Tops.{top_by, top_tree, wanted};
+ghost use Rattle.lp_types.specs.Left.{left};
+ghost use Rattle.lp_types.specs.Reading.{Answers};
 
 use crate::read_grammar::grammar;
 use crate::read_pattern::token_pattern;
@@ -18,6 +22,15 @@ pub enum Top {
     Pattern(TokenPattern),
     TypeRef(TypeRepr),
     GrammarWhereClauses(Vec<WhereClause>),
+}
+
+/// What a first token asks for.
+#[derive(Clone, Copy, PartialEq, Eq)]
+enum Wanted {
+    File,
+    Pattern,
+    TypeRef,
+    Clauses,
 }
 
 /// The plain grammar that a text spells. Its prefix is the least of `__`, `___` and so on that
@@ -44,24 +57,65 @@ pub fn parse_top<'i>(
 {
     let tokens = Tokens::new(alloc, input, offset)?;
     let mut reader = Reader::new(alloc, &tokens, input.len() + offset);
-    read_top(&mut reader, &first)
+    let want = wanted(&first);
+    read_top(&mut reader, want)
 }
 
-fn read_top<'i>(reader: &mut Reader<'_, 'i>, first: &Tok<'_>) -> Read<'i, Top> {
-    let top = match first {
-        Tok::StartPattern => Top::Pattern(token_pattern(reader)?),
-        Tok::StartTypeRef => Top::TypeRef(reader.full_type()?),
-        Tok::StartGrammarWhereClauses => {
-            reader.expect(&Tok::Where)?;
-            Top::GrammarWhereClauses(reader.clauses()?)
-        }
-        _ => {
-            let prefix = Text::from_str(reader.alloc, "__")?;
-            Top::Grammar(grammar(reader, prefix)?)
-        }
-    };
+/// What a first token asks for.
+fn wanted(first: &Tok<'_>) -> Wanted
+    ensures { result ≡ wanted first.now }
+{
+    match first {
+        Tok::StartPattern => Wanted::Pattern,
+        Tok::StartTypeRef => Wanted::TypeRef,
+        Tok::StartGrammarWhereClauses => Wanted::Clauses,
+        _ => Wanted::File,
+    }
+}
+
+/// What is wanted, and nothing else.
+fn read_top<'i>(reader: &mut Reader<'_, 'i>, want: Wanted) -> Read<'i, Top>
+    ensures { Answers top_tree (top_by want (left reader.old)) result (left reader.new) }
+{
+    match want {
+        Wanted::File => read_file(reader),
+        Wanted::Pattern => read_pattern(reader),
+        Wanted::TypeRef => read_type(reader),
+        Wanted::Clauses => read_clauses(reader),
+    }
+}
+
+fn read_file<'i>(reader: &mut Reader<'_, 'i>) -> Read<'i, Top>
+    ensures { Answers top_tree (top_by Wanted.File (left reader.old)) result (left reader.new) }
+{
+    let prefix = Text::from_str(reader.alloc, "__")?;
+    let found = grammar(reader, prefix)?;
+    Ok(Top::Grammar(found))
+}
+
+fn read_pattern<'i>(reader: &mut Reader<'_, 'i>) -> Read<'i, Top>
+    ensures { Answers top_tree (top_by Wanted.Pattern (left reader.old)) result (left reader.new) }
+{
+    let found = token_pattern(reader)?;
     reader.expect_end()?;
-    Ok(top)
+    Ok(Top::Pattern(found))
+}
+
+fn read_type<'i>(reader: &mut Reader<'_, 'i>) -> Read<'i, Top>
+    ensures { Answers top_tree (top_by Wanted.TypeRef (left reader.old)) result (left reader.new) }
+{
+    let found = reader.full_type()?;
+    reader.expect_end()?;
+    Ok(Top::TypeRef(found))
+}
+
+fn read_clauses<'i>(reader: &mut Reader<'_, 'i>) -> Read<'i, Top>
+    ensures { Answers top_tree (top_by Wanted.Clauses (left reader.old)) result (left reader.new) }
+{
+    reader.expect(&Tok::Where)?;
+    let found = reader.clauses()?;
+    reader.expect_end()?;
+    Ok(Top::GrammarWhereClauses(found))
 }
 
 /// The least of `__`, `___` and so on that doesn't stand in a text.
