@@ -5,6 +5,7 @@ ghost use Rattle.lp_reading.specs.Grammars.{grammar, grammar_tree};
 ghost use Rattle.lp_reading.specs.Tops.{top_by, top_tree, wanted};
 ghost use Rattle.lp_types.specs.Left.{left};
 ghost use Rattle.lp_types.specs.Reading.{Answers};
+ghost use Rattle.lp_types.specs.Spelled.{IsReading};
 
 use crate::read_grammar::grammar;
 use crate::read_pattern::token_pattern;
@@ -37,7 +38,9 @@ enum Wanted {
 /// doesn't stand in the text. The error is at the first token with which no plain grammar goes on,
 /// at the end where the tokens end too early, or the tokenizer's or an escape's, whichever comes
 /// first; places are bytes of the text.
-pub fn parse_grammar(alloc: Global, input: &str) -> Result<PlainGrammar, PlainError<'_>> {
+pub fn parse_grammar(alloc: Global, input: &str) -> Result<PlainGrammar, PlainError<'_>>
+    ensures { IsReading grammar_tree grammar input.now 0 result }
+{
     let prefix = free_prefix(alloc, input)?;
     let tokens = Tokens::new(alloc, input, 0)?;
     let mut reader = Reader::new(alloc, &tokens, input.len());
@@ -54,6 +57,7 @@ pub fn parse_top<'i>(
     offset: usize,
 ) -> Result<Top, PlainError<'i>>
     requires { length input.now + offset < 2 ^ 64 }
+    ensures { IsReading top_tree (top_by (wanted first.entry)) input.now offset result }
 {
     let tokens = Tokens::new(alloc, input, offset)?;
     let mut reader = Reader::new(alloc, &tokens, input.len() + offset);

@@ -5,3 +5,4 @@ pub mod Names
 pub mod Types
 pub mod Bounds
 pub mod Clauses
+pub mod Spelled

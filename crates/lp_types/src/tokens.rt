@@ -1,6 +1,9 @@
 //! The tokens of a grammar file, with the patterns of its enum as tokens of their own.
 
-ghost use Rattle.std.specs.Prelude.{◌+◌, ◌^◌, ◌<◌, length};
+ghost use Rattle.std.specs.Prelude.{◌≡◌, ◌+◌, ◌-◌, ◌^◌, ◌<◌, IfOk, length};
+ghost use Rattle.std.specs.Option.{option_copied};
+ghost use Rattle.lp_tok.specs.Tokens.{AreTokensOf};
+ghost use Rattle.lp_types.specs.Spelled.{AreInside, Spells, arrow_code, code_inside, items_of, where_after};
 
 use lp_tok::{Error, Spanned, Tok, Tokenizer};
 use std::alloc::{AllocError, Global};
@@ -24,13 +27,53 @@ enum Where {
 
 impl Where {
     /// Where the token after this one stands.
-    fn after(self, token: &Tok<'_>) -> Where {
-        match (self, token) {
-            (Where::Outside, Tok::Enum) => Where::Heading,
-            (Where::Heading, Tok::LeftBrace) => Where::Inside,
-            (Where::Inside, Tok::RightBrace) => Where::Outside,
-            _ => self,
+    fn after(self, token: &Tok<'_>) -> Where
+        ensures { result ≡ where_after self token.now }
+    {
+        match self {
+            Where::Outside => {
+                if *token == Tok::Enum {
+                    Where::Heading
+                } else {
+                    Where::Outside
+                }
+            }
+            Where::Heading => {
+                if *token == Tok::LeftBrace {
+                    Where::Inside
+                } else {
+                    Where::Heading
+                }
+            }
+            Where::Inside => {
+                if *token == Tok::RightBrace {
+                    Where::Outside
+                } else {
+                    Where::Inside
+                }
+            }
         }
+    }
+
+    /// The code of an arrow in the enum.
+    fn code<'i>(self, token: &Tok<'i>) -> Option<&'i str>
+        ensures { option_copied result ≡ code_inside self token.now }
+    {
+        match self {
+            Where::Outside => None,
+            Where::Heading => None,
+            Where::Inside => arrow_code(token),
+        }
+    }
+}
+
+/// The code of an arrow.
+fn arrow_code<'i>(token: &Tok<'i>) -> Option<&'i str>
+    ensures { option_copied result ≡ arrow_code token.now }
+{
+    match token {
+        Tok::EqualsGreaterThanCode(code) => Some(code),
+        _ => None,
     }
 }
 
@@ -43,6 +86,7 @@ impl<'input> Tokens<'input> {
         offset: usize,
     ) -> Result<Tokens<'input>, AllocError>
         requires { length input.now + offset < 2 ^ 64 }
+        ensures { IfOk result (λ t. Spells input.now offset t.list.items t.error) }
     {
         let mut tokens = Tokens {
             list: Vec::new(alloc),
@@ -50,48 +94,73 @@ impl<'input> Tokens<'input> {
         };
         let mut place = Where::Outside;
         let mut tokenizer = Tokenizer::new(input, offset);
-        for _ in 0..=input.len() {
-            match tokenizer.next() {
-                None => break,
-                Some(Err(error)) => tokens.error = Some(error),
-                Some(Ok(spanned)) => {
-                    place = tokens.add(place, spanned)?;
+        while let Some(item) = tokenizer.next() {
+            match item {
+                Err(error) => {
+                    if tokens.error.is_none() {
+                        tokens.error = Some(error);
+                    }
                 }
-            }
-            if tokens.error.is_some() {
-                break;
+                Ok(spanned) => {
+                    if tokens.error.is_none() {
+                        place = tokens.add(alloc, place, spanned)?;
+                    }
+                }
             }
         }
         Ok(tokens)
     }
 
     /// Adds a token, and those of its code where it is an arrow of the enum.
-    fn add(&mut self, place: Where, spanned: Spanned<Tok<'input>>) -> Result<Where, AllocError> {
-        let code = match (place, &spanned.1) {
-            (Where::Inside, Tok::EqualsGreaterThanCode(code)) => Some(*code),
-            _ => None,
-        };
+    fn add(
+        &mut self,
+        alloc: Global,
+        place: Where,
+        spanned: Spanned<Tok<'input>>,
+    ) -> Result<Where, AllocError> {
+        let mut inside = inside_of(alloc, place, &spanned)?;
         let after = place.after(&spanned.1);
-        let end = spanned.2;
         self.list.push(spanned)?;
-        if let Some(code) = code {
-            self.add_code(code, end.saturating_sub(code.len()))?;
-        }
+        self.list.append(&mut inside.list)?;
+        self.error = inside.error;
         Ok(after)
     }
+}
 
-    fn add_code(&mut self, code: &'input str, shift: usize) -> Result<(), AllocError> {
-        if shift > usize::MAX - code.len() {
-            return Ok(());
+/// The tokens that follow a token: those of its code, where it is an arrow in the enum.
+fn inside_of<'i>(
+    alloc: Global,
+    place: Where,
+    spanned: &Spanned<Tok<'i>>,
+) -> Result<Tokens<'i>, AllocError>
+    ensures { IfOk result (λ t. AreInside place spanned.now.1 spanned.now.2 t.list.items t.error) }
+{
+    match place.code(&spanned.1) {
+        Some(code) => {
+            let tokens = code_tokens(alloc, code, spanned.2)?;
+            Ok(tokens)
         }
-        let mut tokenizer = Tokenizer::new(code, shift);
-        for _ in 0..=code.len() {
-            match tokenizer.next() {
-                None => break,
-                Some(Err(error)) => self.error = Some(error),
-                Some(Ok(spanned)) => self.list.push(spanned)?,
-            }
-        }
-        Ok(())
+        None => Ok(Tokens {
+            list: Vec::new(alloc),
+            error: None,
+        }),
     }
+}
+
+/// The tokens of a code that ends at the place `end`.
+fn code_tokens<'i>(alloc: Global, code: &'i str, end: usize) -> Result<Tokens<'i>, AllocError>
+    ensures { IfOk result (λ t. AreTokensOf code.now (end - length code.now) (items_of t.list.items t.error)) }
+{
+    let mut tokens = Tokens {
+        list: Vec::new(alloc),
+        error: None,
+    };
+    let mut tokenizer = Tokenizer::new(code, end.saturating_sub(code.len()));
+    while let Some(item) = tokenizer.next() {
+        match item {
+            Err(error) => tokens.error = Some(error),
+            Ok(spanned) => tokens.list.push(spanned)?,
+        }
+    }
+    Ok(tokens)
 }
