@@ -7,7 +7,7 @@ use Rattle.lp_repr.specs.declared.repr.TerminalString.TheVariants.{Quoted, Bare}
 use Rattle.lp_repr.specs.TypeTrees.{TypeTree}
 use Rattle.lp_syntax.specs.declared.plain.PlainTerminal.{PlainTerminal}
 use Rattle.lp_tok.specs.declared.tok.Tok.TheVariants.{LeftBrace, RightBrace, Extern, Enum, TypeWord, Equals, Semi}
-use Rattle.lp_types.specs.declared.reader.Kind.TheVariants as kind
+use Rattle.lp_types.specs.declared.texts.Kind.TheVariants as kind
 use Rattle.lp_types.specs.Reading.{Reading, ◌>>=◌, give, choose, where_next, expected, expected_word, passed_word, text, repeated, listed, next_place}
 use Rattle.lp_types.specs.Types.{full_type}
 use Rattle.lp_reading.specs.Literals.{taken_value}

@@ -8,7 +8,7 @@ use Rattle.lp_repr.specs.declared.repr.LrCodeGeneration.TheVariants.{TableDriven
 use Rattle.lp_repr.specs.declared.repr.Parameter.{Parameter}
 use Rattle.lp_repr.specs.TypeTrees.{TypeTree, ClauseTree, type_tree}
 use Rattle.lp_tok.specs.declared.tok.Tok.TheVariants.{LeftParen, RightParen, LessThan, LeftBracket, RightBracket, Hash, Grammar, Where, Colon, Semi}
-use Rattle.lp_types.specs.declared.reader.Kind.TheVariants as kind
+use Rattle.lp_types.specs.declared.texts.Kind.TheVariants as kind
 use Rattle.lp_types.specs.Reading.{Reading, ◌>>=◌, give, choose, where_next, expected, expected_word, passed_word, taken, text, repeated, listed}
 use Rattle.lp_types.specs.Names.{type_parameters}
 use Rattle.lp_types.specs.Types.{full_type}

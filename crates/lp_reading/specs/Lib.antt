@@ -9,3 +9,4 @@ pub mod Externs
 pub mod ExternView
 pub mod Grammars
 pub mod Tops
+pub mod Prefixes

@@ -10,7 +10,7 @@ use Rattle.lp_tok.specs.Signs.{backslash}
 use Rattle.lp_tok.specs.Tokens.{place}
 use Rattle.lp_types.specs.declared.error.PlainError.{PlainError}
 use Rattle.lp_types.specs.declared.error.PlainError.TheVariants.{Parse, Memory}
-use Rattle.lp_types.specs.declared.reader.Kind.TheVariants as kind
+use Rattle.lp_types.specs.declared.texts.Kind.TheVariants as kind
 use Rattle.lp_types.specs.Reading.{Reading, Fails, ◌>>=◌, give, taken, next_stop}
 
 -- the characters that a literal's inside stands for, or an error and what is left at its place

@@ -5,7 +5,7 @@ use Rattle.lp_repr.specs.declared.repr.TokenPattern.{TokenPattern}
 use Rattle.lp_repr.specs.declared.repr.TypeRepr.{TypeRepr}
 use Rattle.lp_repr.specs.TypeTrees.{TypeTree, type_tree}
 use Rattle.lp_tok.specs.declared.tok.Tok.TheVariants.{LeftParen, RightParen, LessThan, GreaterThan, Comma, Underscore, DotDot}
-use Rattle.lp_types.specs.declared.reader.Kind.TheVariants as kind
+use Rattle.lp_types.specs.declared.texts.Kind.TheVariants as kind
 use Rattle.lp_types.specs.declared.reader.TheConstants.{MOST_DEPTH}
 use Rattle.lp_types.specs.Reading.{Reading, Deep, ◌>>=◌, give, where_next, expected, taken, spread}
 use Rattle.lp_types.specs.Names.{path}

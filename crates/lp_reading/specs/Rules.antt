@@ -6,7 +6,7 @@ use Rattle.lp_repr.specs.TypeTrees.{TypeTree, type_tree}
 use Rattle.lp_syntax.specs.declared.plain.PlainAlternative.{PlainAlternative}
 use Rattle.lp_syntax.specs.declared.plain.PlainRule.{PlainRule}
 use Rattle.lp_tok.specs.declared.tok.Tok.TheVariants.{LeftBrace, RightBrace, LeftBracket, RightBracket, Colon, Equals, Semi, Pub, Hash}
-use Rattle.lp_types.specs.declared.reader.Kind.TheVariants as kind
+use Rattle.lp_types.specs.declared.texts.Kind.TheVariants as kind
 use Rattle.lp_types.specs.Reading.{Reading, ◌>>=◌, give, where_next, expected, expected_word, text, passed, repeated, listed, next_place, seen_text}
 use Rattle.lp_types.specs.Types.{full_type}
 use Rattle.lp_reading.specs.Symbols.{alternative}

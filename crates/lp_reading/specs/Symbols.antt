@@ -6,7 +6,7 @@ use Rattle.lp_syntax.specs.declared.plain.PlainKind.TheVariants as plain
 use Rattle.lp_syntax.specs.declared.plain.PlainSymbol.{PlainSymbol}
 use Rattle.lp_syntax.specs.declared.plain.PlainAlternative.{PlainAlternative}
 use Rattle.lp_tok.specs.declared.tok.Tok.TheVariants.{LeftParen, RightParen, LessThan, GreaterThan, Colon, Mut, Lookahead, Lookbehind, Bang}
-use Rattle.lp_types.specs.declared.reader.Kind.TheVariants as kind
+use Rattle.lp_types.specs.declared.texts.Kind.TheVariants as kind
 use Rattle.lp_types.specs.Reading.{Reading, ◌>>=◌, give, fail, where_next, expected, taken, text, passed, chained, next_place, seen_text}
 use Rattle.lp_reading.specs.Literals.{taken_value}
 

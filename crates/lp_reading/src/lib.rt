@@ -3,6 +3,7 @@
 
 mod bytes;
 mod generated;
+mod prefix;
 mod read_extern;
 mod read_grammar;
 mod read_head;

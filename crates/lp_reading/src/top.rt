@@ -1,12 +1,14 @@
 //! The readers of whole texts.
 
-ghost use Rattle.std.specs.Prelude.{◌≡◌, ◌+◌, ◌^◌, ◌<◌, length};
+ghost use Rattle.std.specs.Prelude.{◌≡◌, ◌+◌, ◌^◌, ◌<◌, IfOk, false, length};
 ghost use Rattle.lp_reading.specs.Grammars.{grammar, grammar_tree};
+ghost use Rattle.lp_reading.specs.Prefixes.{IsFreePrefix};
 ghost use Rattle.lp_reading.specs.Tops.{top_by, top_tree, wanted};
 ghost use Rattle.lp_types.specs.Left.{left};
 ghost use Rattle.lp_types.specs.Reading.{Answers};
 ghost use Rattle.lp_types.specs.Spelled.{IsReading};
 
+use crate::prefix::free_prefix;
 use crate::read_grammar::grammar;
 use crate::read_pattern::token_pattern;
 use lp_repr::repr::{TokenPattern, TypeRepr, WhereClause};
@@ -14,7 +16,7 @@ use lp_repr::text::Text;
 use lp_syntax::PlainGrammar;
 use lp_tok::Tok;
 use lp_types::{PlainError, Read, Reader, Tokens};
-use std::alloc::{AllocError, Global};
+use std::alloc::Global;
 
 /// What a text is read as.
 #[derive(Debug, Drop)]
@@ -39,9 +41,11 @@ enum Wanted {
 /// at the end where the tokens end too early, or the tokenizer's or an escape's, whichever comes
 /// first; places are bytes of the text.
 pub fn parse_grammar(alloc: Global, input: &str) -> Result<PlainGrammar, PlainError<'_>>
-    ensures { IsReading grammar_tree grammar input.now 0 result }
+    ensures file { IsReading grammar_tree grammar input.now 0 result }
+    ensures prefix { IfOk result (λ g. IsFreePrefix input.now g.prefix) }
+    ensures lalr { IfOk result (λ g. g.algorithm.lalr ≡ false) }
 {
-    let prefix = free_prefix(alloc, input)?;
+    let prefix = Text(free_prefix(alloc, input)?);
     let tokens = Tokens::new(alloc, input, 0)?;
     let mut reader = Reader::new(alloc, &tokens, input.len());
     grammar(&mut reader, prefix)
@@ -120,28 +124,4 @@ fn read_clauses<'i>(reader: &mut Reader<'_, 'i>) -> Read<'i, Top>
     let found = reader.clauses()?;
     reader.expect_end()?;
     Ok(Top::GrammarWhereClauses(found))
-}
-
-/// The least of `__`, `___` and so on that doesn't stand in a text.
-fn free_prefix(alloc: Global, input: &str) -> Result<Text, AllocError> {
-    let mut prefix = String::from_str(alloc, "__")?;
-    for _ in 1..longest_run(input) {
-        prefix.push_str("_")?;
-    }
-    Ok(Text(prefix))
-}
-
-/// The length of the longest run of `_` in a text.
-fn longest_run(input: &str) -> usize {
-    let mut longest = 0usize;
-    let mut run = 0usize;
-    for byte in input.as_bytes() {
-        run = if *byte == b'_' {
-            run.saturating_add(1)
-        } else {
-            0
-        };
-        longest = longest.max(run);
-    }
-    longest
 }

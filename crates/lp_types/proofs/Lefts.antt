@@ -1,5 +1,5 @@
 -- The tokens that are left, as a list.
-use Rattle.std.proofs.Common.{◌≡◌, ℕ, List, [], ◌∷◌, Option, Some, None, length, refl, ap, suc, ◌+◌}
+use Rattle.std.proofs.Common.{◌≡◌, ℕ, List, [], ◌∷◌, Option, Some, None, length, refl, ap, suc}
 use Rattle.lp_tok.specs.declared.tok.Tok.{Tok}
 use Rattle.lp_tok.specs.declared.tok.Error.{Error}
 use Rattle.lp_types.specs.Left.{left_of, size}

@@ -1,13 +1,10 @@
 -- Loops over things that a step finds, turn by turn.
-use Rattle.std.proofs.Common.{◌≡◌, ℕ, ◌+◌, ◌-◌, ◌<◌, ◌≤◌, Bool, true, false, Option, Some, None, List, [], ◌∷◌, ◌++◌, map, zero, suc, refl, sym, ap, ◌∙◌, append_assoc, append-nil, arith}
+use Rattle.std.proofs.Common.{◌≡◌, ℕ, ◌+◌, ◌-◌, ◌<◌, ◌≤◌, Bool, true, false, Option, Some, None, List, [], ◌∷◌, ◌++◌, map, suc, refl, sym, ap, ◌∙◌, append_assoc, append-nil, arith}
 use Rattle.std.proofs.lemmas.List.{map-append}
 use Rattle.std.specs.Option.{option_map}
-use Rattle.lp_repr.specs.declared.values.ParseError.{ParseError}
-use Rattle.lp_tok.specs.declared.tok.Error.{Error}
-use Rattle.lp_tok.specs.declared.tok.Tok.{Tok}
 use Rattle.lp_types.specs.declared.error.PlainError.{PlainError}
-use Rattle.lp_types.specs.Left.{Left, failure, size}
-use Rattle.lp_types.specs.Reading.{Found, Read, Fails, Deep, Reading, then, ◌>>=◌, choose, give, fail, many, after_one, repeated, chain, chained_by, FailsWith}
+use Rattle.lp_types.specs.Left.{Left, Fault, failure, size}
+use Rattle.lp_types.specs.Reading.{Found, Read, Fails, Deep, Reading, then, ◌>>=◌, choose, give, many, after_one, repeated, chain, chained_by, FailsWith}
 use Rattle.lp_types.proofs.Steps.{read_then, fails_then, fails_as}
 
 module _ {A : Type 0} where
@@ -39,7 +36,7 @@ module _ {A : Type 0} where
   unfolding joined
   joined_fails xs found e h = fails_then found (λ ys. give (xs ++ ys)) e h
 
-  joined_out : (xs : List A) (at : ParseError ℕ Tok Error) → joined xs (Fails at) ≡ Fails at
+  joined_out : (xs : List A) (at : Fault) → joined xs (Fails at) ≡ Fails at
   unfolding joined then
   joined_out xs at = refl
 

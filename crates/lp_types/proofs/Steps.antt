@@ -1,12 +1,10 @@
 -- What a reading finds, step by step.
-use Rattle.std.proofs.Common.{◌≡◌, ℕ, Bool, true, false, Option, Some, None, List, Result, Ok, Err, refl, sym, ap, ◌∙◌, subst}
+use Rattle.std.proofs.Common.{◌≡◌, Bool, true, false, Result, Ok, Err, sym, ap, ◌∙◌, subst}
 use Rattle.std.specs.Prelude.{IsErrAnd}
-use Rattle.lp_repr.specs.declared.values.ParseError.{ParseError}
-use Rattle.lp_tok.specs.declared.tok.Error.{Error}
 use Rattle.lp_tok.specs.declared.tok.Tok.{Tok}
 use Rattle.lp_types.specs.declared.error.PlainError.{PlainError}
 use Rattle.lp_types.specs.declared.error.PlainError.TheVariants.{Memory}
-use Rattle.lp_types.specs.Left.{Left}
+use Rattle.lp_types.specs.Left.{Left, Fault}
 use Rattle.lp_types.specs.Reading.{Found, Read, Fails, Reading, then, choose, passed, where_next, FailsWith, fails_so, lacks_memory, IsError, same_error, want_of_memory, Answers}
 
 -- the first part is read
@@ -40,7 +38,7 @@ fails_then found f _ (fails_so e h) = fails_so e (ap (λ y. then y f) h)
 fails_then found f _ lacks_memory = lacks_memory
 
 -- the next token goes on nothing
-pub fails_here : {A : Type 0} (found : Found A) (at : ParseError ℕ Tok Error) (e : PlainError) → IsError at e → found ≡ Fails at → FailsWith found e
+pub fails_here : {A : Type 0} (found : Found A) (at : Fault) (e : PlainError) → IsError at e → found ≡ Fails at → FailsWith found e
 fails_here found at _ (same_error e h) eq = fails_so e (eq ∙ ap Fails (sym h))
 fails_here found at _ want_of_memory eq = lacks_memory
 

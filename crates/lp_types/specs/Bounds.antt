@@ -8,8 +8,9 @@ use Rattle.lp_repr.specs.declared.parse_tree.TypeBoundParameter.{TypeBoundParame
 use Rattle.lp_repr.specs.declared.parse_tree.TypeBoundParameter.TheVariants as argument
 use Rattle.lp_repr.specs.TypeTrees.{TypeTree}
 use Rattle.lp_tok.specs.declared.tok.Tok.TheVariants.{LeftParen, RightParen, LessThan, GreaterThan, Equals, MinusGreaterThan, For}
-use Rattle.lp_types.specs.declared.reader.Kind.TheVariants as kind
-use Rattle.lp_types.specs.Left.{Left, after, next, is_tok, text_of}
+use Rattle.lp_types.specs.declared.texts.Kind.TheVariants as kind
+use Rattle.lp_types.specs.Left.{after, next}
+use Rattle.lp_types.specs.Marks.{is_tok, text_of}
 use Rattle.lp_types.specs.Reading.{Reading, Read, ◌>>=◌, give, choose, where_next, expected, taken, text, repeated, listed}
 use Rattle.lp_types.specs.Names.{path, type_parameters}
 use Rattle.lp_types.specs.Types.{types_by, full_type}

@@ -1,5 +1,6 @@
 -- Where clauses.
-use Rattle.std.specs.Prelude.{ℕ, Bool, true, false, not, List, [], ◌∷◌, Option, Some, None, Vec, Bor}
+use Rattle.std.specs.Prelude.{ℕ, Bool, true, false, not, List, [], ◌∷◌, Option, Some, None, Vec}
+use Rattle.std.specs.Borrow.{Bor}
 use Rattle.std.specs.Option.{option_map}
 use Rattle.std.specs.Global.{Global}
 use Rattle.lp_repr.specs.declared.parse_tree.TypeParameter.{TypeParameter}
@@ -7,8 +8,9 @@ use Rattle.lp_repr.specs.declared.parse_tree.TypeBound.{TypeBound}
 use Rattle.lp_repr.specs.declared.parse_tree.TypeBound.TheVariants as bound
 use Rattle.lp_repr.specs.TypeTrees.{TypeTree, lifetime_type, ClauseTree, forall_clause, bound_clause}
 use Rattle.lp_tok.specs.declared.tok.Tok.TheVariants.{For, Plus, Comma, Colon, Semi}
-use Rattle.lp_types.specs.declared.reader.Kind.TheVariants as kind
-use Rattle.lp_types.specs.Left.{Left, token, ends, breaks, is_tok}
+use Rattle.lp_types.specs.declared.texts.Kind.TheVariants as kind
+use Rattle.lp_types.specs.Left.{Left, token, ends, breaks}
+use Rattle.lp_types.specs.Marks.{is_tok}
 use Rattle.lp_types.specs.Reading.{Reading, Read, ◌>>=◌, give, choose, where_next, expected, taken, text, passed, chained_by, spread}
 use Rattle.lp_types.specs.Types.{full_type}
 use Rattle.lp_types.specs.Bounds.{binder, type_bound}

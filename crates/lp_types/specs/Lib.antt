@@ -1,3 +1,4 @@
+pub mod Marks
 pub mod Left
 pub mod Reading
 pub mod ErrorPlace

@@ -1,11 +1,10 @@
 -- Names, paths and type parameters.
-use Rattle.std.specs.Prelude.{ℕ, Bool, true, false, List, [], ◌∷◌, Option, Some, None}
+use Rattle.std.specs.Prelude.{ℕ, Bool, false, List, Option, Some, None}
 use Rattle.lp_repr.specs.declared.parse_tree.Path.{Path}
 use Rattle.lp_repr.specs.declared.parse_tree.TypeParameter.{TypeParameter}
 use Rattle.lp_repr.specs.declared.parse_tree.TypeParameter.TheVariants as parameter
-use Rattle.lp_tok.specs.declared.tok.Tok.{Tok}
 use Rattle.lp_tok.specs.declared.tok.Tok.TheVariants.{ColonColon, GreaterThan}
-use Rattle.lp_types.specs.declared.reader.Kind.TheVariants as kind
+use Rattle.lp_types.specs.declared.texts.Kind.TheVariants as kind
 use Rattle.lp_types.specs.Reading.{Reading, ◌>>=◌, give, text, taken, taken_where, passed, chained, repeated, listed}
 
 -- a name of a path, and whether `::` follows

@@ -7,15 +7,16 @@ use Rattle.lp_tok.specs.declared.tok.Tok.{Tok}
 use Rattle.lp_tok.specs.declared.tok.Tok.TheVariants.{Comma}
 use Rattle.lp_types.specs.declared.error.PlainError.{PlainError}
 use Rattle.lp_types.specs.declared.error.PlainError.TheVariants.{Parse, Memory}
-use Rattle.lp_types.specs.declared.reader.Kind.{Kind}
-use Rattle.lp_types.specs.declared.reader.Kind.TheVariants as kind
-use Rattle.lp_types.specs.Left.{Left, next, after, place, stop, failure, size, is_end, is_tok, text_of}
+use Rattle.lp_types.specs.declared.texts.Kind.{Kind}
+use Rattle.lp_types.specs.declared.texts.Kind.TheVariants as kind
+use Rattle.lp_types.specs.Left.{Left, Fault, fault_of, next, after, place, stop, failure, size, is_end}
+use Rattle.lp_types.specs.Marks.{is_tok, text_of}
 
 -- the tokens begin with what means x, and the rest follows; or they begin with nothing of the kind, which
 -- this error tells; or what stands there nests too deep
 pub data Found (A : Type 0) : Type 0 where
   Read : A → Left → Found A
-  Fails : ParseError ℕ Tok Error → Found A
+  Fails : Fault → Found A
   Deep : Found A
 
 abbrev pub Reading : Type 0 → Type 0
@@ -156,12 +157,12 @@ listed closer one = where_next closer (give None) (one >>= λ x. separated close
 
 -- a call failed as the reading does; want of memory says nothing
 pub data FailsWith {A : Type 0} (found : Found A) : PlainError → Type 0 where
-  fails_so : (e : ParseError ℕ Tok Error) → found ≡ Fails e → FailsWith found (Parse e)
+  fails_so : (e : ParseError ℕ Tok Error) → found ≡ Fails (fault_of e) → FailsWith found (Parse e)
   lacks_memory : FailsWith found Memory
 
 -- this error, or want of memory
-pub data IsError (e : ParseError ℕ Tok Error) : PlainError → Type 0 where
-  same_error : (x : ParseError ℕ Tok Error) → x ≡ e → IsError e (Parse x)
+pub data IsError (e : Fault) : PlainError → Type 0 where
+  same_error : (x : ParseError ℕ Tok Error) → fault_of x ≡ e → IsError e (Parse x)
   want_of_memory : IsError e Memory
 
 -- a call answers what the reading finds, as `view` sees it

@@ -4,7 +4,7 @@ use Rattle.lp_repr.specs.declared.parse_tree.Path.{Path}
 use Rattle.lp_repr.specs.TypeTrees.{TypeTree, TypeTrees, tuple_type, slice_type, nominal_type, object_type, lifetime_type, reference_type, trees_of}
 use Rattle.lp_tok.specs.declared.tok.Tok.{Tok}
 use Rattle.lp_tok.specs.declared.tok.Tok.TheVariants.{LeftParen, RightParen, LeftBracket, RightBracket, Ampersand, Dyn, LessThan, GreaterThan, Mut}
-use Rattle.lp_types.specs.declared.reader.Kind.TheVariants as kind
+use Rattle.lp_types.specs.declared.texts.Kind.TheVariants as kind
 use Rattle.lp_types.specs.declared.reader.TheConstants.{MOST_DEPTH}
 use Rattle.lp_types.specs.Reading.{Reading, Deep, ◌>>=◌, give, where_next, expected, taken, taken_where, passed, repeated, listed}
 use Rattle.lp_types.specs.Names.{path}

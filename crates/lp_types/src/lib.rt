@@ -7,8 +7,10 @@ mod read_clause;
 mod read_name;
 mod read_type;
 mod reader;
+mod texts;
 mod tokens;
 
 pub use error::{ParseError, PlainError, Span, place_of};
-pub use reader::{Kind, MOST_DEPTH, Read, Reader};
+pub use reader::{MOST_DEPTH, Read, Reader};
+pub use texts::Kind;
 pub use tokens::Tokens;

@@ -8,7 +8,8 @@ ghost use Rattle.lp_types.specs.Bounds.{associated, binder, bound_argument, boun
 ghost use Rattle.lp_types.specs.Left.{left};
 ghost use Rattle.lp_types.specs.Reading.{Answers, Read, listed};
 
-use crate::reader::{Kind, MOST_DEPTH, Read, Reader};
+use crate::reader::{MOST_DEPTH, Read, Reader};
+use crate::texts::Kind;
 use lp_repr::parse_tree::{Path, TypeBound, TypeBoundParameter, TypeParameter};
 use lp_repr::repr::TypeRepr;
 use lp_repr::text::{Items, Text};

@@ -1,13 +1,14 @@
 //! Where clauses.
 
-ghost use Rattle.std.specs.Prelude.{◌≡◌, IfOk, None, map, string_bytes};
+ghost use Rattle.std.specs.Prelude.{◌≡◌, IfOk, None, map, string_bytes, true};
 ghost use Rattle.lp_repr.specs.TypeTrees.{bound_clause, bound_tree, clause_tree, forall_clause, lifetime_type, type_tree};
 ghost use Rattle.lp_types.specs.Clauses.{bound_clauses, clause, clauses, in_binder, lifetime_bound, linked_bound, linked_clause, more_clauses, names_of, other_clauses, subject_clauses, type_clauses};
 ghost use Rattle.lp_types.specs.Left.{left};
 ghost use Rattle.lp_types.specs.Reading.{Answers, Read, choose, chained_by};
 ghost use Rattle.lp_types.specs.Bounds.{type_bound};
 
-use crate::reader::{Kind, Read, Reader};
+use crate::reader::{Read, Reader};
+use crate::texts::Kind;
 use lp_repr::parse_tree::{TypeBound, TypeParameter};
 use lp_repr::repr::{TypeRepr, WhereClause};
 use lp_repr::text::Text;

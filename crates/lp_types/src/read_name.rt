@@ -6,7 +6,8 @@ ghost use Rattle.lp_types.specs.Names.{name_part, part, path, type_parameter, ty
 ghost use Rattle.lp_types.specs.Reading.{Answers, chained, listed, separated};
 ghost use Rattle.lp_tok.specs.declared.tok.Tok.TheVariants.{GreaterThan};
 
-use crate::reader::{Kind, Read, Reader};
+use crate::reader::{Read, Reader};
+use crate::texts::Kind;
 use lp_repr::parse_tree::{Path, TypeParameter};
 use lp_repr::text::{Items, Text};
 use lp_tok::Tok;

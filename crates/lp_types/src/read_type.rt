@@ -8,7 +8,8 @@ ghost use Rattle.lp_types.specs.Reading.{Answers, listed};
 ghost use Rattle.lp_types.specs.Types.{argument_by, arguments_by, full_type, named_by, named_tree, reference_by, slice_by, tuple_by, type_by, type_within, types_by};
 
 use crate::error::PlainError;
-use crate::reader::{Kind, MOST_DEPTH, Read, Reader};
+use crate::reader::{MOST_DEPTH, Read, Reader};
+use crate::texts::Kind;
 use lp_repr::parse_tree::Path;
 use lp_repr::repr::{NominalTypeRepr, TypeRepr};
 use lp_tok::Tok;

@@ -3,10 +3,12 @@
 ghost use Rattle.std.specs.Prelude.{◌≡◌, suc, IfOk};
 ghost use Rattle.std.specs.Option.{option_copied, option_map};
 ghost use Rattle.lp_types.specs.Clauses.{goes_on};
-ghost use Rattle.lp_types.specs.Left.{failure, is_end, left, left_of, next, place, size, stop, after, is_tok, text_of, texted, unrecognized};
+ghost use Rattle.lp_types.specs.Left.{after, failure, fault_of, is_end, left, left_of, next, place, size, stop, unrecognized};
+ghost use Rattle.lp_types.specs.Marks.{is_tok, mark_of, text_of};
 ghost use Rattle.lp_types.specs.Reading.{Answers, IsError, Read, at_end, expected, expected_word, is_word, passed_word, next_place, next_stop, passed, seen, seen_text, taken, taken_where, text};
 
 use crate::error::{ParseError, PlainError};
+use crate::texts::{Kind, is_same, texted};
 use crate::tokens::Tokens;
 use lp_repr::text::Items;
 use lp_tok::{Error, Spanned, Tok};
@@ -30,38 +32,6 @@ pub struct Reader<'a, 'i> {
     end: usize,
 }
 
-/// A kind of tokens that have a text.
-#[derive(Clone, Copy, PartialEq, Eq)]
-pub enum Kind {
-    Use,
-    Id,
-    MacroId,
-    Lifetime,
-    StringLiteral,
-    CharLiteral,
-    Code,
-    FallibleCode,
-    Attribute,
-}
-
-/// The kind and the text of a token that has one.
-fn texted<'i>(token: &Tok<'i>) -> Option<(Kind, &'i str)>
-    ensures { option_map (λ p. (p.0, p.1.now)) result ≡ texted token.now }
-{
-    match token {
-        Tok::Use(text) => Some((Kind::Use, text)),
-        Tok::Id(text) => Some((Kind::Id, text)),
-        Tok::MacroId(text) => Some((Kind::MacroId, text)),
-        Tok::Lifetime(text) => Some((Kind::Lifetime, text)),
-        Tok::StringLiteral(text) => Some((Kind::StringLiteral, text)),
-        Tok::CharLiteral(text) => Some((Kind::CharLiteral, text)),
-        Tok::EqualsGreaterThanCode(text) => Some((Kind::Code, text)),
-        Tok::EqualsGreaterThanQuestionCode(text) => Some((Kind::FallibleCode, text)),
-        Tok::ShebangAttribute(text) => Some((Kind::Attribute, text)),
-        _ => None,
-    }
-}
-
 /// A copy of a token.
 fn copied<'i>(token: &Tok<'i>) -> Result<Tok<'i>, AllocError>
     ensures { IfOk result (λ copy. copy ≡ token.now) }
@@ -72,7 +42,7 @@ fn copied<'i>(token: &Tok<'i>) -> Result<Tok<'i>, AllocError>
 
 /// The error of a token that goes on nothing.
 fn unrecognized<'i>(alloc: Global, spanned: &Spanned<Tok<'i>>) -> Result<ParseError<'i>, AllocError>
-    ensures { IfOk result (λ e. e ≡ unrecognized spanned.now) }
+    ensures { IfOk result (λ e. fault_of e ≡ unrecognized spanned.now.0 (mark_of spanned.now.1) spanned.now.2) }
 {
     let token = copied(&spanned.1)?;
     Ok(ParseError::UnrecognizedToken {
@@ -96,7 +66,7 @@ impl<'a, 'i> Reader<'a, 'i> {
 
     /// The next token.
     pub fn peek(&self) -> Option<&'a Tok<'i>>
-        ensures { option_copied result ≡ next (left self.now) }
+        ensures { option_map (λ t. mark_of t.now) result ≡ next (left self.now) }
     {
         match self.rest.first() {
             None => None,
@@ -169,7 +139,7 @@ impl<'a, 'i> Reader<'a, 'i> {
     {
         match self.peek() {
             None => false,
-            Some(next) => next == token,
+            Some(next) => is_same(next, token),
         }
     }
 
@@ -193,7 +163,7 @@ impl<'a, 'i> Reader<'a, 'i> {
     {
         match self.rest.first() {
             None => self.error.is_some(),
-            Some(spanned) => !(spanned.1 == Tok::Semi),
+            Some(spanned) => !is_same(&spanned.1, &Tok::Semi),
         }
     }
 
@@ -328,7 +298,7 @@ impl<'a, 'i> Reader<'a, 'i> {
     }
 
     fn parse_error(&self) -> Result<ParseError<'i>, AllocError>
-        ensures { IfOk result (λ e. e ≡ failure (left self.now)) }
+        ensures { IfOk result (λ e. fault_of e ≡ failure (left self.now)) }
     {
         match self.rest.first() {
             Some(spanned) => {

@@ -1,10 +1,12 @@
 //! The tokens of a grammar file, with the patterns of its enum as tokens of their own.
 
-ghost use Rattle.std.specs.Prelude.{◌≡◌, ◌+◌, ◌-◌, ◌^◌, ◌<◌, IfOk, length};
+ghost use Rattle.std.specs.Prelude.{◌≡◌, ◌+◌, ◌-◌, ◌^◌, ◌<◌, IfOk, ℕ, length};
 ghost use Rattle.std.specs.Option.{option_copied};
-ghost use Rattle.lp_tok.specs.Tokens.{AreTokensOf};
-ghost use Rattle.lp_types.specs.Spelled.{AreInside, Spells, arrow_code, code_inside, items_of, where_after};
+ghost use Rattle.lp_types.specs.Left.{left_of};
+ghost use Rattle.lp_types.specs.Marks.{mark_of};
+ghost use Rattle.lp_types.specs.Spelled.{AreInside, AreMarksOf, IsSpelling, Spliced, arrow_code, code_inside, marks_of, where_after};
 
+use crate::texts::is_same;
 use lp_tok::{Error, Spanned, Tok, Tokenizer};
 use std::alloc::{AllocError, Global};
 
@@ -28,25 +30,25 @@ enum Where {
 impl Where {
     /// Where the token after this one stands.
     fn after(self, token: &Tok<'_>) -> Where
-        ensures { result ≡ where_after self token.now }
+        ensures { result ≡ where_after self (mark_of token.now) }
     {
         match self {
             Where::Outside => {
-                if *token == Tok::Enum {
+                if is_same(token, &Tok::Enum) {
                     Where::Heading
                 } else {
                     Where::Outside
                 }
             }
             Where::Heading => {
-                if *token == Tok::LeftBrace {
+                if is_same(token, &Tok::LeftBrace) {
                     Where::Inside
                 } else {
                     Where::Heading
                 }
             }
             Where::Inside => {
-                if *token == Tok::RightBrace {
+                if is_same(token, &Tok::RightBrace) {
                     Where::Outside
                 } else {
                     Where::Inside
@@ -57,7 +59,7 @@ impl Where {
 
     /// The code of an arrow in the enum.
     fn code<'i>(self, token: &Tok<'i>) -> Option<&'i str>
-        ensures { option_copied result ≡ code_inside self token.now }
+        ensures { option_copied result ≡ code_inside self (mark_of token.now) }
     {
         match self {
             Where::Outside => None,
@@ -69,7 +71,7 @@ impl Where {
 
 /// The code of an arrow.
 fn arrow_code<'i>(token: &Tok<'i>) -> Option<&'i str>
-    ensures { option_copied result ≡ arrow_code token.now }
+    ensures { option_copied result ≡ arrow_code (mark_of token.now) }
 {
     match token {
         Tok::EqualsGreaterThanCode(code) => Some(code),
@@ -86,45 +88,56 @@ impl<'input> Tokens<'input> {
         offset: usize,
     ) -> Result<Tokens<'input>, AllocError>
         requires { length input.now + offset < 2 ^ 64 }
-        ensures { IfOk result (λ t. Spells input.now offset t.list.items t.error) }
+        ensures { IfOk result (λ t. IsSpelling input.now offset (left_of t.list.items t.error (length input.now + offset))) }
     {
-        let mut tokens = Tokens {
-            list: Vec::new(alloc),
-            error: None,
-        };
-        let mut place = Where::Outside;
-        let mut tokenizer = Tokenizer::new(input, offset);
-        while let Some(item) = tokenizer.next() {
-            match item {
-                Err(error) => {
-                    if tokens.error.is_none() {
-                        tokens.error = Some(error);
-                    }
-                }
-                Ok(spanned) => {
-                    if tokens.error.is_none() {
-                        place = tokens.add(alloc, place, spanned)?;
-                    }
-                }
-            }
-        }
+        let plain = plain_tokens(alloc, input, offset)?;
+        let tokens = with_codes(alloc, plain.list, plain.error)?;
         Ok(tokens)
     }
+}
 
-    /// Adds a token, and those of its code where it is an arrow of the enum.
-    fn add(
-        &mut self,
-        alloc: Global,
-        place: Where,
-        spanned: Spanned<Tok<'input>>,
-    ) -> Result<Where, AllocError> {
-        let mut inside = inside_of(alloc, place, &spanned)?;
-        let after = place.after(&spanned.1);
-        self.list.push(spanned)?;
-        self.list.append(&mut inside.list)?;
-        self.error = inside.error;
-        Ok(after)
+/// The tokens of a text whose places begin with `offset`.
+fn plain_tokens<'i>(alloc: Global, text: &'i str, offset: usize) -> Result<Tokens<'i>, AllocError>
+    requires { length text.now + offset < 2 ^ 64 }
+    ensures { IfOk result (λ t. AreMarksOf text.now offset (marks_of t.list.items t.error)) }
+{
+    let mut tokens = Tokens {
+        list: Vec::new(alloc),
+        error: None,
+    };
+    let mut tokenizer = Tokenizer::new(text, offset);
+    while let Some(item) = tokenizer.next() {
+        match item {
+            Err(error) => tokens.error = Some(error),
+            Ok(spanned) => tokens.list.push(spanned)?,
+        }
     }
+    Ok(tokens)
+}
+
+/// These tokens, where in the braces of `enum` the tokens of a code follow its `=>`.
+fn with_codes<'i>(
+    alloc: Global,
+    plain: Vec<Spanned<Tok<'i>>>,
+    error: Option<Error>,
+) -> Result<Tokens<'i>, AllocError>
+    ensures { IfOk result (λ t. (end : ℕ) → Spliced end Where.Outside (marks_of plain.entry.items error) (left_of t.list.items t.error end)) }
+{
+    let mut list = Vec::new(alloc);
+    let mut place = Where::Outside;
+    for spanned in plain {
+        let mut inside = inside_of(alloc, place, &spanned)?;
+        place = place.after(&spanned.1);
+        list.push(spanned)?;
+        list.append(&mut inside.list)?;
+        if inside.error.is_some() {
+            return Ok(Tokens {
+                list,
+                error: inside.error,
+            });
+        }
+    }
+    Ok(Tokens { list, error })
 }
 
 /// The tokens that follow a token: those of its code, where it is an arrow in the enum.
@@ -133,34 +146,13 @@ fn inside_of<'i>(
     place: Where,
     spanned: &Spanned<Tok<'i>>,
 ) -> Result<Tokens<'i>, AllocError>
-    ensures { IfOk result (λ t. AreInside place spanned.now.1 spanned.now.2 t.list.items t.error) }
+    ensures { IfOk result (λ t. AreInside place (mark_of spanned.now.1) spanned.now.2 (marks_of t.list.items t.error)) }
 {
     match place.code(&spanned.1) {
-        Some(code) => {
-            let tokens = code_tokens(alloc, code, spanned.2)?;
-            Ok(tokens)
-        }
+        Some(code) => plain_tokens(alloc, code, spanned.2.saturating_sub(code.len())),
         None => Ok(Tokens {
             list: Vec::new(alloc),
             error: None,
         }),
     }
-}
-
-/// The tokens of a code that ends at the place `end`.
-fn code_tokens<'i>(alloc: Global, code: &'i str, end: usize) -> Result<Tokens<'i>, AllocError>
-    ensures { IfOk result (λ t. AreTokensOf code.now (end - length code.now) (items_of t.list.items t.error)) }
-{
-    let mut tokens = Tokens {
-        list: Vec::new(alloc),
-        error: None,
-    };
-    let mut tokenizer = Tokenizer::new(code, end.saturating_sub(code.len()));
-    while let Some(item) = tokenizer.next() {
-        match item {
-            Err(error) => tokens.error = Some(error),
-            Ok(spanned) => tokens.list.push(spanned)?,
-        }
-    }
-    Ok(tokens)
 }

@@ -1,7 +1,7 @@
 use Rattle.lp_types.proofs.Lists.{SoFar}
 use Rattle.lp_types.specs.Left.{left}
 use Rattle.lp_types.specs.Reading.{taken}
-use Rattle.lp_types.specs.declared.reader.Kind.TheVariants as kind
+use Rattle.lp_types.specs.declared.texts.Kind.TheVariants as kind
 use Rattle.lp_reading.proofs.read_head.attributes.Given as goal
 
 -- what was read so far

@@ -1,7 +1,7 @@
 -- what each reader answers, from what its parts answer
 use Rattle.std.proofs.Common.{◌≡◌, arith, refl, sym, ap, ◌∙◌, map, suc}
 use Rattle.std.specs.Option.{option_map}
-use Rattle.lp_repr.specs.TypeTrees.{TypeTree, type_tree, lifetime_type, slice_type, reference_type, name_of}
+use Rattle.lp_repr.specs.TypeTrees.{type_tree, lifetime_type, slice_type, reference_type, name_of}
 use Rattle.lp_repr.proofs.TreeRows.{tuple_treed}
 use Rattle.lp_types.specs.Left.{left}
 use Rattle.lp_types.specs.Reading.{Read, lacks_memory}

@@ -1,4 +1,4 @@
-use Rattle.std.proofs.Common.{refl, ap, sym, ◌∙◌, true, None}
+use Rattle.std.proofs.Common.{refl, ap, sym, true, None}
 use Rattle.lp_repr.specs.TypeTrees.{lifetime_type}
 use Rattle.lp_types.specs.Clauses.{clause, subject_clauses}
 use Rattle.lp_types.specs.Left.{left}
