@@ -53,7 +53,7 @@ ends_more text n at = record {
 ends_before : (text : List ℕ) (byte n : ℕ) → EndsIn (text ++ byte ∷ []) (suc n) → (byte ≡ 95) × EndsIn text n
 ends_before text byte n at =
     let e : text ++ byte ∷ [] ≡ (at.front ++ underscores n) ++ 95 ∷ [] =
-        at.split ∙ ap (λ l. at.front ++ l) (sym (underscores_more n)) ∙ sym (append_assoc at.front (underscores n) (95 ∷ [])) in
+    at.split ∙ ap (λ l. at.front ++ l) (sym (underscores_more n)) ∙ sym (append_assoc at.front (underscores n) (95 ∷ [])) in
     let same = last_same text (at.front ++ underscores n) byte 95 e in
     (same.1, record { front = at.front; split = same.0 })
 
@@ -76,10 +76,10 @@ stands_where text byte n at = elim (at_last at.back) [
   | inl none ↦ inl (record { front = at.front; split = at.split ∙ ap (λ l. at.front ++ (underscores n ++ l)) none ∙ ap (λ l. at.front ++ l) (append-nil (underscores n)) })
   | inr last ↦
       let e : text ++ byte ∷ [] ≡ (at.front ++ (underscores n ++ last.0)) ++ last.1 ∷ [] =
-          at.split
-          ∙ ap (λ l. at.front ++ (underscores n ++ l)) last.2
-          ∙ ap (λ l. at.front ++ l) (sym (append_assoc (underscores n) last.0 (last.1 ∷ [])))
-          ∙ sym (append_assoc at.front (underscores n ++ last.0) (last.1 ∷ [])) in
+      at.split
+      ∙ ap (λ l. at.front ++ (underscores n ++ l)) last.2
+      ∙ ap (λ l. at.front ++ l) (sym (append_assoc (underscores n) last.0 (last.1 ∷ [])))
+      ∙ sym (append_assoc at.front (underscores n ++ last.0) (last.1 ∷ [])) in
       inr (record { front = at.front; back = last.0; split = (last_same text (at.front ++ (underscores n ++ last.0)) byte last.1 e).0 })
 ]
 
@@ -101,9 +101,9 @@ stands_in_none n at = omega (arith, ap length at.split, length-append at.front (
 pub no_run : (text : List ℕ) → text ≡ [] → RunsTo text 0 0
 no_run text none =
     let empty : RunsTo [] 0 0 = record {
-        far = record { stands = record { front = []; back = []; split = refl }; most = stands_in_none };
-        ends = ends_none [];
-        last = λ n at. fits_front [] n at;
+      far = record { stands = record { front = []; back = []; split = refl }; most = stands_in_none };
+      ends = ends_none [];
+      last = λ n at. fits_front [] n at;
     } in
     subst (λ t. RunsTo t 0 0) (sym none) empty
 
@@ -117,12 +117,12 @@ run_ends text new byte longest run more next so is other next_is more_is =
     let same : more ≡ longest = omega arith in
     let none : (n : ℕ) → EndsIn (text ++ byte ∷ []) n → n ≤ 0 = λ n. ends_with_none text byte n other in
     let here : RunsTo (text ++ byte ∷ []) longest 0 = record {
-        far = record {
-          stands = stands_more text (underscores longest) byte so.far.stands;
-          most = λ n at. elim (stands_where text byte n at) [ inl ends ↦ omega (arith, none n ends) | inr before ↦ so.far.most n before ];
-        };
-        ends = ends_none (text ++ byte ∷ []);
-        last = none;
+      far = record {
+        stands = stands_more text (underscores longest) byte so.far.stands;
+        most = λ n at. elim (stands_where text byte n at) [ inl ends ↦ omega (arith, none n ends) | inr before ↦ so.far.most n before ];
+      };
+      ends = ends_none (text ++ byte ∷ []);
+      last = none;
     } in
     subst (λ t. RunsTo t more next) (sym is) (subst (λ l. RunsTo (text ++ byte ∷ []) l next) (sym same) (subst (RunsTo (text ++ byte ∷ []) longest) (sym next_is) here))
 

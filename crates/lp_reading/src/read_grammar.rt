@@ -9,7 +9,7 @@ ghost use Rattle.lp_types.specs.Left.{left};
 ghost use Rattle.lp_types.specs.Reading.{Answers};
 
 use crate::read_extern::{AssociatedTypes, Extern, TokenEnum, extern_block};
-use crate::read_head::{Head, Lists, head};
+use crate::read_head::{Head, Lists, file_head};
 use crate::read_rule::rules;
 use lp_repr::repr::Algorithm;
 use lp_repr::text::{Items, Text};
@@ -23,7 +23,7 @@ pub fn grammar<'i>(reader: &mut Reader<'_, 'i>, prefix: Text) -> Read<'i, PlainG
     ensures prefix { IfOk result (λ g. g.prefix ≡ prefix) }
     ensures lalr { IfOk result (λ g. g.algorithm.lalr ≡ false) }
 {
-    let head = head(reader)?;
+    let head = file_head(reader)?;
     let before = rules(reader)?;
     let block = extern_block(reader)?;
     let behind = rules(reader)?;

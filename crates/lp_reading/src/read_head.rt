@@ -34,13 +34,13 @@ pub struct Lists {
 }
 
 /// What stands before the rules.
-pub fn head<'i>(reader: &mut Reader<'_, 'i>) -> Read<'i, Head>
+pub fn file_head<'i>(reader: &mut Reader<'_, 'i>) -> Read<'i, Head>
     ensures { Answers head_tree (head (left reader.old)) result (left reader.new) }
 {
     let attributes = attributes(reader)?;
     let uses = uses(reader)?;
     let codegen = codegen(reader)?;
-    let lists = lists(reader)?;
+    let lists = head_lists(reader)?;
     Ok(Head {
         attributes,
         uses,
@@ -50,7 +50,7 @@ pub fn head<'i>(reader: &mut Reader<'_, 'i>) -> Read<'i, Head>
 }
 
 /// `grammar` with its type parameters, parameters and clauses, and `;`.
-fn lists<'i>(reader: &mut Reader<'_, 'i>) -> Read<'i, Lists>
+fn head_lists<'i>(reader: &mut Reader<'_, 'i>) -> Read<'i, Lists>
     ensures { Answers lists_tree (lists (left reader.old)) result (left reader.new) }
 {
     reader.expect(&Tok::Grammar)?;

@@ -65,12 +65,12 @@ pub fn parse_top<'i>(
 {
     let tokens = Tokens::new(alloc, input, offset)?;
     let mut reader = Reader::new(alloc, &tokens, input.len() + offset);
-    let want = wanted(&first);
+    let want = want_of(&first);
     read_top(&mut reader, want)
 }
 
 /// What a first token asks for.
-fn wanted(first: &Tok<'_>) -> Wanted
+fn want_of(first: &Tok<'_>) -> Wanted
     ensures { result ≡ wanted first.now }
 {
     match first {

@@ -13,7 +13,7 @@ pub returns-in_ok-value-in-Ok : goal.returns-in_ok-value-in-Ok
 unfolding value_read
 returns-in_ok-value-in-Ok c =
     let stands = c.in-Ok.ensures.value in
-    value_means _ _ stands.0 _ _ stands.1 (c.in_ok-value-in-Ok.ensures ∙ stands.2)
+    value_means _ _ stands.0 _ _ stands.1 (c.in_ok-value-in-Ok.ensures.ok ∙ stands.2)
 
 pub returns-in-Err : goal.returns-in-Err
 unfolding value_read

@@ -9,4 +9,4 @@ returns-in_err-found c = part_fails _ _ _ _ _ _ _ c.in_err-found.ensures c.from_
 
 pub returns : goal.returns
 unfolding braced
-returns c = read_then _ _ _ _ _ c.in_ok-found.ensures (read_then _ _ _ _ _ c.passes-_is_closed.ensures refl)
+returns c = read_then _ _ _ _ _ c.in_ok-found.ensures (read_then _ _ _ _ _ c.passes-is_closed.ensures refl)

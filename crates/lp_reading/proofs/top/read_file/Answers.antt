@@ -8,8 +8,8 @@ returns-in_err-prefix c = no_memory _ _ _ _ c.from_residual.ensures.1
 
 pub returns-in_err-found : goal.returns-in_err-found
 unfolding top_by
-returns-in_err-found c = part_fails _ _ _ _ _ _ _ c.in_err-found.ensures c.from_residual-in_err-found.ensures.1 refl
+returns-in_err-found c = part_fails _ _ _ _ _ _ _ c.in_err-found.ensures.file c.from_residual-in_err-found.ensures.1 refl
 
 pub returns : goal.returns
 unfolding top_by
-returns c = read_then _ _ _ _ _ c.in_ok-found.ensures refl
+returns c = read_then _ _ _ _ _ c.in_ok-found.ensures.file refl

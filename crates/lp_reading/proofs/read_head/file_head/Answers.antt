@@ -1,7 +1,7 @@
 use Rattle.std.proofs.Common.{refl}
 use Rattle.lp_reading.specs.Heads.{head}
 use Rattle.lp_types.proofs.Steps.{part_fails, read_then}
-use Rattle.lp_reading.proofs.read_head.head.Goals as goal
+use Rattle.lp_reading.proofs.read_head.file_head.Goals as goal
 
 pub returns-in_err-attributes : goal.returns-in_err-attributes
 unfolding head

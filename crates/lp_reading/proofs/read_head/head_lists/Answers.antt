@@ -1,7 +1,7 @@
 use Rattle.std.proofs.Common.{refl}
 use Rattle.lp_reading.specs.Heads.{lists}
 use Rattle.lp_types.proofs.Steps.{part_fails, read_then}
-use Rattle.lp_reading.proofs.read_head.lists.Goals as goal
+use Rattle.lp_reading.proofs.read_head.head_lists.Goals as goal
 
 pub returns-in_err-expect : goal.returns-in_err-expect
 unfolding lists
