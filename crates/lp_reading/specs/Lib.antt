@@ -1,0 +1,12 @@
+pub mod Patterns
+pub mod LayoutView
+pub mod Literals
+pub mod Symbols
+pub mod Rules
+pub mod Heads
+pub mod HeadView
+pub mod Externs
+pub mod ExternView
+pub mod Grammars
+pub mod Tops
+pub mod Prefixes

@@ -1,8 +1,8 @@
 //! From bytes to a plain grammar.
 
-use crate::error::{PlainError, place_of};
 use crate::top::parse_grammar;
 use lp_syntax::PlainGrammar;
+use lp_types::{PlainError, place_of};
 use std::alloc::Global;
 use std::str;
 

@@ -2,20 +2,20 @@
 #![tactic(auto)]
 
 mod bytes;
-mod error;
 mod generated;
+mod prefix;
+mod read_extern;
 mod read_grammar;
+mod read_head;
+mod read_literal;
 mod read_pattern;
 mod read_rule;
-mod read_type;
-mod read_where;
-mod reader;
+mod read_symbol;
 mod report;
-mod tokens;
 mod top;
 
 pub use bytes::{BytesFault, plain_of};
-pub use error::{ParseError, PlainError, Span, place_of};
 pub use generated::{make_items, make_text};
+pub use lp_types::{ParseError, PlainError, Span, place_of};
 pub use report::report_parse_error;
 pub use top::{Top, parse_grammar, parse_top};

@@ -1,7 +1,7 @@
 //! Errors of reading, in words.
 
-use crate::error::{ParseError, Span};
 use lp_tok::ErrorCode;
+use lp_types::{ParseError, Span};
 use std::alloc::{AllocError, Global};
 
 /// Hands the text, the span and the message of an error to `reporter`, and answers what that

@@ -1,0 +1,14 @@
+use Rattle.std.proofs.Common.{ap, map, refl, sym}
+use Rattle.lp_reading.specs.Heads.{maybe_parameters, parameter_tree}
+use Rattle.lp_types.proofs.Steps.{answers_as, where_no, where_yes}
+use Rattle.lp_types.specs.Left.{left}
+use Rattle.lp_types.specs.Reading.{Read}
+use Rattle.lp_reading.proofs.read_head.maybe_parameters.Goals as goal
+
+pub returns-then-passes : goal.returns-then-passes
+unfolding maybe_parameters
+returns-then-passes c = answers_as _ _ _ _ _ c.parameters.ensures (where_yes _ _ _ _ _ _ _ c.passes.ensures c.if-passes.true refl)
+
+pub returns-else-passes : goal.returns-else-passes
+unfolding maybe_parameters
+returns-else-passes c = where_no _ _ _ _ _ _ _ c.passes.ensures c.if-passes.false (ap (λ xs. Read (map parameter_tree xs) (left c.passes.new.self)) (sym c.new.ensures.items))

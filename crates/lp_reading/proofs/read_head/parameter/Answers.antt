@@ -1,0 +1,26 @@
+use Rattle.std.proofs.Common.{ap, refl, sym}
+use Rattle.lp_reading.specs.Heads.{parameter}
+use Rattle.lp_repr.specs.TypeTrees.{type_tree}
+use Rattle.lp_types.proofs.Steps.{no_memory, part_fails, read_then}
+use Rattle.lp_types.specs.Left.{left}
+use Rattle.lp_types.specs.Reading.{Read}
+use Rattle.lp_reading.proofs.read_head.parameter.Goals as goal
+
+pub returns-in_err-id : goal.returns-in_err-id
+unfolding parameter
+returns-in_err-id c = part_fails _ _ _ _ _ _ _ c.in_err-id.ensures c.from_residual.ensures.1 refl
+
+pub returns-in_err-expect : goal.returns-in_err-expect
+unfolding parameter
+returns-in_err-expect c = part_fails _ _ _ _ _ _ _ c.in_err-expect.ensures c.from_residual-in_err-expect.ensures.1 (read_then _ _ _ _ _ c.in_ok-id.ensures refl)
+
+pub returns-in_err-ty : goal.returns-in_err-ty
+unfolding parameter
+returns-in_err-ty c = part_fails _ _ _ _ _ _ _ c.in_err-ty.ensures c.from_residual-in_err-ty.ensures.1 (read_then _ _ _ _ _ c.in_ok-id.ensures (read_then _ _ _ _ _ c.in_ok-expect.ensures refl))
+
+pub returns-in_err-name : goal.returns-in_err-name
+returns-in_err-name c = no_memory _ _ _ _ c.from_residual-in_err-name.ensures.1
+
+pub returns : goal.returns
+unfolding parameter
+returns c = read_then _ _ _ _ _ c.in_ok-id.ensures (read_then _ _ _ _ _ c.in_ok-expect.ensures (read_then _ _ _ _ _ c.in_ok-ty.ensures (ap (λ name. Read (record { name = name; ty = type_tree c.in_ok-ty.ty }) (left c.full_type.new.self)) (sym c.in_ok-name.ensures))))

@@ -1,0 +1,28 @@
+use Rattle.std.proofs.Common.{ap, arith, ◌∙◌}
+use Rattle.lp_reading.specs.Rules.{alternatives}
+use Rattle.lp_types.proofs.Lists.{begun, broke, ended, one_more, ran_out}
+use Rattle.lp_types.proofs.Steps.{fails_here, handed_on, no_memory}
+use Rattle.lp_types.specs.Left.{left}
+use Rattle.lp_types.specs.Reading.{Read}
+use Rattle.lp_reading.proofs.read_rule.alternatives.Goals as goal
+
+pub loop-turn-init : goal.loop-turn-init
+loop-turn-init c = begun _ _ _ _ c.new-list.ensures.items c.turns-turn-end.ensures
+
+pub returns-in_err-next_alternative : goal.returns-in_err-next_alternative
+unfolding alternatives
+returns-in_err-next_alternative c = handed_on _ _ _ _ _ (broke _ _ _ _ _ _ _ c.loop-turn.invariant (omega arith) c.in_err-next_alternative.ensures) c.from_residual.ensures.1
+
+pub returns-in-None : goal.returns-in-None
+unfolding alternatives
+returns-in-None c = ended _ _ _ _ _ _ _ c.loop-turn.invariant (omega arith) (c.in_ok-next_alternative.ensures ∙ ap (λ o. Read o (left c.next_alternative.new.reader)) c.in-None.is)
+
+pub returns-in_err-push-in-Some : goal.returns-in_err-push-in-Some
+returns-in_err-push-in-Some c = no_memory _ _ _ _ c.from_residual-in_err-push-in-Some.ensures.1
+
+pub loop-turn-preserved : goal.loop-turn-preserved
+loop-turn-preserved c = one_more _ _ _ _ _ _ _ _ c.in-Some.found c.loop-turn.invariant (omega arith) (c.in_ok-next_alternative.ensures ∙ ap (λ o. Read o (left c.next_alternative.new.reader)) c.in-Some.is) c.in_ok-push-in-Some.ensures.items
+
+pub returns : goal.returns
+unfolding alternatives
+returns c = fails_here _ _ _ c.error.ensures (ran_out _ _ _ _ _ _ c.loop-turn.invariant (omega arith))

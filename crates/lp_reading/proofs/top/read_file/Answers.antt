@@ -1,0 +1,15 @@
+use Rattle.std.proofs.Common.{refl}
+use Rattle.lp_reading.specs.Tops.{top_by}
+use Rattle.lp_types.proofs.Steps.{no_memory, part_fails, read_then}
+use Rattle.lp_reading.proofs.top.read_file.Goals as goal
+
+pub returns-in_err-prefix : goal.returns-in_err-prefix
+returns-in_err-prefix c = no_memory _ _ _ _ c.from_residual.ensures.1
+
+pub returns-in_err-found : goal.returns-in_err-found
+unfolding top_by
+returns-in_err-found c = part_fails _ _ _ _ _ _ _ c.in_err-found.ensures.file c.from_residual-in_err-found.ensures.1 refl
+
+pub returns : goal.returns
+unfolding top_by
+returns c = read_then _ _ _ _ _ c.in_ok-found.ensures.file refl

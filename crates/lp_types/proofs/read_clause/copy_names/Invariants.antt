@@ -1,0 +1,6 @@
+use Rattle.std.proofs.Common.{◌≡◌, take}
+use Rattle.lp_types.proofs.read_clause.copy_names.Given as goal
+
+-- the names so far
+abbrev pub invariant-loop-name : goal.invariant-loop-name
+invariant-loop-name l = l.copy.items ≡ take l.name-index l.name-items

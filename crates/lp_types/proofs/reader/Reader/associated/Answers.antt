@@ -1,0 +1,28 @@
+use Rattle.std.proofs.Common.{refl, ap, sym}
+use Rattle.lp_repr.specs.TypeTrees.{type_tree}
+use Rattle.lp_repr.specs.declared.parse_tree.TypeBoundParameter.TheVariants as argument
+use Rattle.lp_types.specs.Bounds.{associated}
+use Rattle.lp_types.specs.Left.{left}
+use Rattle.lp_types.specs.Reading.{Read}
+use Rattle.lp_types.proofs.Steps.{read_then, part_fails, no_memory}
+use Rattle.lp_types.proofs.reader.Reader.associated.Goals as goal
+
+pub returns-in_err-id : goal.returns-in_err-id
+unfolding associated
+returns-in_err-id c = part_fails _ _ _ _ _ _ _ c.in_err-id.ensures c.from_residual.ensures.1 refl
+
+pub returns-in_err-expect : goal.returns-in_err-expect
+unfolding associated
+returns-in_err-expect c = part_fails _ _ _ _ _ _ _ c.in_err-expect.ensures c.from_residual-in_err-expect.ensures.1 (read_then _ _ _ _ _ c.in_ok-id.ensures refl)
+
+pub returns-in_err-ty : goal.returns-in_err-ty
+unfolding associated
+returns-in_err-ty c = part_fails _ _ _ _ _ _ _ c.in_err-ty.ensures c.from_residual-in_err-ty.ensures.1 (read_then _ _ _ _ _ c.in_ok-id.ensures (read_then _ _ _ _ _ c.in_ok-expect.ensures refl))
+
+pub returns-in_err-name : goal.returns-in_err-name
+returns-in_err-name c = no_memory _ _ _ _ c.from_residual-in_err-name.ensures.1
+
+pub returns : goal.returns
+unfolding associated
+returns c = read_then _ _ _ _ _ c.in_ok-id.ensures (read_then _ _ _ _ _ c.in_ok-expect.ensures (read_then _ _ _ _ _ c.in_ok-ty.ensures
+    (ap (λ name. Read (argument.Associated name (type_tree c.in_ok-ty.ty)) (left c.full_type.new.self)) (sym c.in_ok-name.ensures))))

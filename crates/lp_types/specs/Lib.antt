@@ -1,0 +1,9 @@
+pub mod Marks
+pub mod Left
+pub mod Reading
+pub mod ErrorPlace
+pub mod Names
+pub mod Types
+pub mod Bounds
+pub mod Clauses
+pub mod Spelled
