@@ -1,5 +1,5 @@
 -- Runs of `_` in a text, byte by byte.
-use Rattle.std.proofs.Common.{◌≡◌, ℕ, ◌+◌, ◌-◌, ◌<◌, ◌≤◌, ◌⊎◌, inl, inr, List, [], ◌∷◌, ◌++◌, zero, suc, refl, sym, ap, ◌∙◌, subst, append_assoc, append-nil, length, max, length-append, arith}
+use Rattle.std.proofs.Common.{◌≡◌, ℕ, ◌+◌, ◌-◌, ◌≤◌, ◌⊎◌, inl, inr, List, [], ◌∷◌, ◌++◌, zero, suc, refl, sym, ap, ◌∙◌, subst, append_assoc, append-nil, length, max, length-append, arith}
 use Rattle.lp_reading.specs.Prefixes.{underscores, StandsIn, IsLongestRun, IsFreePrefix}
 
 -- a list is empty, or ends with something

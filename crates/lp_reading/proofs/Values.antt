@@ -1,5 +1,5 @@
 -- A literal's inside stands for what the definition reads.
-use Rattle.std.proofs.Common.{◌≡◌, ℕ, ◌<◌, ◌≤◌, Bool, true, false, List, [], ◌∷◌, zero, suc, length, refl, sym, ap, ◌∙◌, subst, inl, inr, arith}
+use Rattle.std.proofs.Common.{◌≡◌, ℕ, ◌≤◌, Bool, true, false, List, [], ◌∷◌, zero, suc, length, refl, sym, ap, ◌∙◌, subst, inl, inr, arith}
 use Rattle.std.specs.Prelude.{◌==◌, ◌&&◌, nat_lt, if◌then◌else◌, ◌+◌, ◌*◌, encode_utf8_all, Some}
 use Rattle.std.specs.Str.{chars}
 use Rattle.std.specs.Char.{digit_value}
@@ -15,7 +15,7 @@ use Rattle.lp_tok.specs.Tokens.{place}
 use Rattle.lp_types.specs.Left.{Left}
 use Rattle.lp_types.specs.declared.error.PlainError.{PlainError}
 use Rattle.lp_types.specs.Reading.{Read, Fails, FailsWith as FailsSo, fails_so, lacks_memory}
-use Rattle.lp_reading.specs.Literals.{Value, Means, Wrong, with_char, from_escape, value_within, value_of, value_or_fault, error_of}
+use Rattle.lp_reading.specs.Literals.{Means, Wrong, with_char, from_escape, value_within, value_of, value_or_fault, error_of}
 
 -- what follows an escape has at most so many characters
 data Shorter : Escaped → ℕ → Type 0 where

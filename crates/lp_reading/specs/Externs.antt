@@ -1,6 +1,5 @@
 -- The `extern` block of a grammar file.
-use Rattle.std.specs.Prelude.{ℕ, Bool, true, false, List, [], Option, Some, None}
-use Rattle.std.specs.Option.{option_map}
+use Rattle.std.specs.Prelude.{ℕ, List, Option, Some, None}
 use Rattle.lp_repr.specs.declared.consts.TheConstants.{ERROR, LOCATION}
 use Rattle.lp_repr.specs.declared.repr.TerminalString.{TerminalString}
 use Rattle.lp_repr.specs.declared.repr.TerminalString.TheVariants.{Quoted, Bare}

@@ -1,4 +1,4 @@
-use Rattle.std.proofs.Common.{◌≡◌, ◌+◌, ◌++◌, [], ◌∷◌, suc, ap, sym, ◌∙◌, subst, arith}
+use Rattle.std.proofs.Common.{◌≡◌, ◌+◌, ◌++◌, [], ◌∷◌, suc, ap, ◌∙◌, subst, arith}
 use Rattle.lp_reading.specs.Prefixes.{underscores, IsLongestRun}
 use Rattle.lp_reading.proofs.Runs.{underscores_more, free_of}
 use Rattle.lp_reading.proofs.prefix.free_prefix.Goals as goal

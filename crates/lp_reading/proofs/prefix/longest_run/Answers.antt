@@ -1,4 +1,4 @@
-use Rattle.std.proofs.Common.{◌≡◌, ◌+◌, ◌<◌, ◌^◌, ◌≤◌, ℕ, [], ◌∷◌, ◌++◌, suc, refl, ap, sym, ◌∙◌, inl, inr, take, get_or, length, length-take, arith}
+use Rattle.std.proofs.Common.{◌≡◌, ◌+◌, ◌<◌, ◌^◌, ◌≤◌, ℕ, [], ◌∷◌, ◌++◌, suc, refl, ap, ◌∙◌, inl, inr, take, get_or, length, length-take, arith}
 use Rattle.std.proofs.Math.Seq.{take-suc}
 use Rattle.std.proofs.lemmas.Bool.Decides.{eqb_tells}
 use Rattle.lp_reading.proofs.Runs.{no_run, run_goes_on, run_ends, run_fits}

@@ -2,7 +2,7 @@ use Rattle.std.proofs.Common.{ap, map, refl, sym, ◌∙◌}
 use Rattle.lp_reading.specs.ExternView.{extern_tree}
 use Rattle.lp_reading.specs.Grammars.{file_tree, grammar}
 use Rattle.lp_reading.specs.HeadView.{head_tree}
-use Rattle.lp_reading.specs.Rules.{rule_tree, rules}
+use Rattle.lp_reading.specs.Rules.{rule_tree}
 use Rattle.lp_types.proofs.Steps.{no_memory, part_fails, read_then}
 use Rattle.lp_types.specs.Left.{left}
 use Rattle.lp_types.specs.Reading.{Read}

@@ -1,6 +1,5 @@
-use Rattle.std.proofs.Common.{◌+◌, length, sym, ap, ◌∙◌, subst, List, ℕ}
+use Rattle.std.proofs.Common.{◌+◌, length, sym, ap, ◌∙◌}
 use Rattle.lp_reading.specs.Literals.{value_of, value_or_fault, value_read}
-use Rattle.lp_types.specs.declared.error.PlainError.{PlainError}
 use Rattle.lp_types.specs.Left.{left}
 use Rattle.lp_types.proofs.Steps.{no_memory, fails_as}
 use Rattle.lp_reading.proofs.Values.{value_means, value_faults}

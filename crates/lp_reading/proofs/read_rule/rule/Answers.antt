@@ -1,5 +1,5 @@
 use Rattle.std.proofs.Common.{ap, refl, sym}
-use Rattle.lp_reading.specs.Rules.{alternatives, rule}
+use Rattle.lp_reading.specs.Rules.{rule}
 use Rattle.lp_repr.specs.TypeTrees.{type_tree}
 use Rattle.lp_types.proofs.Steps.{no_memory, part_fails, read_then}
 use Rattle.lp_types.specs.Left.{left}

@@ -1,5 +1,5 @@
 use Rattle.std.proofs.Common.{ap, refl, sym, ◌∙◌}
-use Rattle.lp_reading.specs.Symbols.{alternative, symbols}
+use Rattle.lp_reading.specs.Symbols.{alternative}
 use Rattle.lp_types.proofs.Steps.{no_memory, part_fails, read_then}
 use Rattle.lp_types.specs.Left.{left}
 use Rattle.lp_types.specs.Reading.{Read}

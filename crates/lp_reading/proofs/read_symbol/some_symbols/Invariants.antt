@@ -1,5 +1,5 @@
 use Rattle.std.proofs.Common.{[], ◌∷◌}
-use Rattle.lp_reading.specs.Symbols.{linked_symbol, symbol}
+use Rattle.lp_reading.specs.Symbols.{linked_symbol}
 use Rattle.lp_types.proofs.Lists.{ChainSoFar}
 use Rattle.lp_types.specs.Left.{left}
 use Rattle.lp_reading.proofs.read_symbol.some_symbols.Given as goal

@@ -1,7 +1,6 @@
-use Rattle.std.proofs.Common.{◌≡◌, ◌+◌, ap, sym, ◌∙◌, subst, length, arith}
+use Rattle.std.proofs.Common.{◌≡◌, ◌+◌, ap, ◌∙◌, length, arith}
 use Rattle.lp_types.specs.Left.{left_of}
-use Rattle.lp_reading.specs.Prefixes.{IsFreePrefix}
-use Rattle.lp_reading.proofs.Wholes.{read_as, not_read, if_ok_as}
+use Rattle.lp_reading.proofs.Wholes.{read_as, not_read}
 use Rattle.lp_reading.proofs.top.parse_grammar.Goals as goal
 
 pub returns-in_err-free_prefix-clause-file : goal.returns-in_err-free_prefix-clause-file

@@ -1,5 +1,5 @@
-use Rattle.std.proofs.Common.{◌≡◌, ◌+◌, ap, sym, ◌∙◌, subst, length, arith}
-use Rattle.lp_types.specs.Left.{left, left_of}
+use Rattle.std.proofs.Common.{ap, sym}
+use Rattle.lp_types.specs.Left.{left}
 use Rattle.lp_types.proofs.Steps.{answers_as}
 use Rattle.lp_reading.specs.Tops.{top_by}
 use Rattle.lp_reading.proofs.Wholes.{read_as, not_read}
