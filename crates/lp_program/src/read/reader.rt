@@ -1,8 +1,24 @@
 //! The reader of programs: by the templates of the parts, from the front of the text on.
 
-ghost use Rattle.std.specs.Prelude.{◌≡◌, length, IsTrue};
-ghost use Rattle.lp_form.specs.Templates.{holes_of};
+ghost use Rattle.std.specs.Prelude.{◌≡◌, ◌==◌, ◌<◌, ◌≤◌, ◌+◌, ◌-◌, true, false, Some, [], length, take, drop, get_or, map, IsTrue, IfOk, OnOk, IfSome};
+ghost use Rattle.std.specs.Bool.{OnTrue};
+ghost use Rattle.std.specs.Option.{MatchOption};
+ghost use Rattle.lp_form.specs.Templates.{holes_of, steps_of, piece};
+ghost use Rattle.lp_form.specs.declared.class.Class.TheVariants as class_of;
+ghost use Rattle.lp_form.specs.declared.template.Step.TheVariants as step_of;
+ghost use Rattle.lp_spelling.specs.Counting.{settled};
+ghost use Rattle.lp_spelling.specs.Cursors.{left, IsTaken};
+ghost use Rattle.lp_spelling.specs.TableReading.{entries};
+ghost use Rattle.lp_tree.specs.declared.tree.Entry.{Entry};
+ghost use Rattle.lp_program.specs.Adding.{Extends, AddsPart, AddsBelow};
+ghost use Rattle.lp_program.specs.CodeReading.{IsUse, IsCode};
+ghost use Rattle.lp_program.specs.Growing.{Grows, MayBecome, IsFilled};
+ghost use Rattle.lp_program.specs.OwnLines.{hole};
+ghost use Rattle.lp_program.specs.Printed.{is_member};
+ghost use Rattle.lp_program.specs.Reads.{hole_count, is_prefix, is_text_step, text_steps, ReadsAs, TakesOwn};
+ghost use Rattle.lp_program.specs.Trees.{forest, tree_count};
 
+use crate::print::own::tree_count;
 use crate::read::growing::{Growing, code_step, line_step, lines_step, use_step};
 use crate::read::taking::{TakenTable, cut_line, take_entries, take_use};
 use lp_form::{Class, Line, Part, Step, holes, members, steps};
@@ -46,15 +62,18 @@ struct Reader<'t> {
 /// The program that the text reads as. Its texts are borrowed from the text. Outside code, uses and
 /// attributes, blanks at the front of a line, empty lines and comment lines don't count; in table
 /// rows neither do blanks, line ends and what follows `//` after an entry.
-pub fn read_program<'t>(alloc: Global, text: &'t str) -> Result<Program<'t>, ReadFault> {
+pub fn read_program<'t>(alloc: Global, text: &'t str) -> Result<Program<'t>, ReadFault>
+    ensures { IfOk result (ReadsAs text.now) }
+{
+    let shown = prefix_of(text);
     let mut reader = Reader {
         alloc,
-        prefix: prefix_of(text),
+        prefix: shown.unwrap_or(NO_PREFIX),
         cursor: Cursor::new(text),
         worst: 0,
         entries: Vec::new(alloc),
     };
-    if reader.read_part(DEPTH, Part::Program)? && reader.at_end() {
+    if reader.read_part(DEPTH, Part::Program)? && (reader.at_end() && shown.is_some()) {
         let Reader {
             prefix,
             entries,
@@ -74,7 +93,9 @@ const NO_PREFIX: &str = "\n";
 
 /// The prefix of a name of the standard uses, with what follows it on the line: it isn't empty, and
 /// what it makes of `lalrpop_util` is an identifier.
-fn prefix_in(shown: &str) -> Option<&str> {
+fn prefix_in(shown: &str) -> Option<&str>
+    ensures { IfSome result (λ prefix. is_prefix prefix.now ≡ true) }
+{
     let name = shown.strip_suffix(";")?;
     let prefix = name.strip_suffix("lalrpop_util")?;
     if prefix.is_empty() || !is_identifier(name) {
@@ -84,25 +105,59 @@ fn prefix_in(shown: &str) -> Option<&str> {
 }
 
 /// The prefix that the standard uses show.
-fn prefix_of(text: &str) -> &str {
+fn prefix_of(text: &str) -> Option<&str>
+    ensures { IfSome result (λ prefix. is_prefix prefix.now ≡ true) }
+{
     let mut cursor = Cursor::new(text);
-    for _ in 0..text.len() {
+    for _i in 0..text.len() {
         let Some(line) = cursor.line() else {
-            return NO_PREFIX;
+            return None;
         };
         if line.starts_with("use ") {
             match take_use(cursor) {
                 Some(taken) => cursor = taken.next,
-                None => return NO_PREFIX,
+                None => return None,
             }
         } else {
             if let Some(shown) = line.strip_prefix("extern crate lalrpop_util as ") {
-                return prefix_in(shown).unwrap_or(NO_PREFIX);
+                return prefix_in(shown);
             }
             cursor = cursor.after_line();
         }
     }
-    NO_PREFIX
+    None
+}
+
+/// One for a step that is a text of its own.
+fn text_step(step: Step) -> usize
+    ensures value { result ≡ is_text_step step }
+    ensures bound { result ≤ 1 }
+{
+    match step {
+        Step::Use => 1,
+        Step::Code => 1,
+        _ => 0,
+    }
+}
+
+/// How many steps of a part are texts of their own.
+fn text_count(part: Part) -> usize
+    ensures { result ≡ text_steps (steps_of part) }
+{
+    let mut count = 0usize;
+    for step in steps(part) {
+        count += text_step(step.0);
+    }
+    count
+}
+
+/// Whether all holes of a part are told, and no others.
+fn is_told(growing: &Growing<'_>) -> bool
+    ensures { result ≡ (length growing.now.holes.items == hole_count growing.now.part) }
+{
+    let told = growing.holes.len();
+    let texts = text_count(growing.part);
+    texts <= told && told - texts == holes(growing.part).len()
 }
 
 /// Whether a part that is being read has no hole that a line tells, and none so far.
@@ -125,14 +180,19 @@ impl<'t> Reader<'t> {
     }
 
     /// Notes that a line doesn't fit.
-    fn miss(&mut self, line: usize) {
+    fn miss(&mut self, line: usize)
+        ensures { self.new ≡ record self.old { worst = self.new.worst } }
+    {
         if line > self.worst {
             self.worst = line;
         }
     }
 
     /// Whether nothing is left that counts.
-    fn at_end(&mut self) -> bool {
+    fn at_end(&mut self) -> bool
+        ensures kept { self.new ≡ record self.old { worst = self.new.worst } }
+        ensures none { IsTrue result → settled (left self.old.cursor) ≡ [] }
+    {
         if self.cursor.line().is_none() {
             return true;
         }
@@ -143,7 +203,10 @@ impl<'t> Reader<'t> {
 
     /// Reads a part with all below it.
     #[cycle(reading)]
-    fn read_part(&mut self, depth: usize, part: Part) -> Result<bool, AllocError> {
+    fn read_part(&mut self, depth: usize, part: Part) -> Result<bool, AllocError>
+        ensures extends { OnOk result (Extends self.old self.new) }
+        ensures adds { IfOk result (λ b. OnTrue b (AddsPart part self.old self.new)) }
+    {
         if depth == 0 {
             return Ok(false);
         }
@@ -162,31 +225,42 @@ impl<'t> Reader<'t> {
             tabled: false,
         };
         for step in steps(part) {
-            if !self.read_own(at, *step, &mut growing)?
-                || !self.read_below(depth - 1, at, step.0)?
-            {
+            if !self.read_own(at, *step, &mut growing)? {
                 return Ok(false);
             }
+            if !self.read_below(depth - 1, at, step.0)? {
+                return Ok(false);
+            }
+        }
+        if !is_told(&growing) {
+            return Ok(false);
         }
         self.finish(at, growing);
         Ok(true)
     }
 
     /// Puts in what was not known when a part was added.
-    fn finish(&mut self, at: usize, growing: Growing<'t>) {
+    fn finish(&mut self, at: usize, growing: Growing<'t>)
+        requires { at < length self.old.entries.items }
+        ensures kept { self.new ≡ record self.old { entries = self.new.entries } }
+        ensures first { take at self.new.entries.items ≡ take at self.old.entries.items }
+        ensures after { drop (at + 1) self.new.entries.items ≡ drop (at + 1) self.old.entries.items }
+        ensures filled { (e : Entry) → IsFilled (get_or self.old.entries.items at e) growing.entry (length self.old.entries.items - (at + 1)) (get_or self.new.entries.items at e) }
+    {
         let Growing { holes, numbers, .. } = growing;
-        let count = self.entries.len();
-        if at < count {
-            let entry = &mut self.entries[at];
-            entry.holes = holes;
-            entry.numbers = numbers;
-            entry.below = count - at - 1;
-        }
+        let below = self.entries.len() - at - 1;
+        let entry = &mut self.entries[at];
+        entry.holes = holes;
+        entry.numbers = numbers;
+        entry.below = below;
     }
 
     /// Reads the parts that a step has.
     #[cycle(reading)]
-    fn read_below(&mut self, depth: usize, at: usize, step: Step) -> Result<bool, AllocError> {
+    fn read_below(&mut self, depth: usize, at: usize, step: Step) -> Result<bool, AllocError>
+        ensures extends { OnOk result (Extends self.old self.new) }
+        ensures adds { IfOk result (λ b. OnTrue b (AddsBelow step self.old self.new)) }
+    {
         match step {
             Step::One(class) => self.read_class(depth, at, class),
             Step::Optional(class) => self.read_optional(depth, class),
@@ -205,7 +279,13 @@ impl<'t> Reader<'t> {
         at: usize,
         step: Line,
         growing: &mut Growing<'t>,
-    ) -> Result<bool, AllocError> {
+    ) -> Result<bool, AllocError>
+        requires { at < length self.old.entries.items }
+        ensures kept { OnOk result (self.new ≡ record self.old { cursor = self.new.cursor; worst = self.new.worst }) }
+        ensures text { OnOk result (IsTaken self.old.cursor self.new.cursor) }
+        ensures grows { IfOk result (λ b. OnTrue b (Grows self.old.prefix.now growing.old growing.new)) }
+        ensures takes { IfOk result (λ b. OnTrue b ((c : _) → MayBecome growing.new c → TakesOwn self.old.prefix.now c (tree_count (forest (drop (at + 1) self.old.entries.items))) (map piece step.entry.1.now) step.entry.0 (left self.old.cursor) (left self.new.cursor))) }
+    {
         let scope = self.scope(growing.part);
         match step.0 {
             Step::Line(_) => {
@@ -229,7 +309,10 @@ impl<'t> Reader<'t> {
     }
 
     /// Goes on behind what was taken; where nothing was, the next line doesn't fit.
-    fn goes_on(&mut self, next: Option<Cursor<'t>>) -> bool {
+    fn goes_on(&mut self, next: Option<Cursor<'t>>) -> bool
+        ensures kept { self.new ≡ record self.old { cursor = self.new.cursor; worst = self.new.worst } }
+        ensures gone { MatchOption next.entry ((result ≡ false) × (self.new.cursor ≡ self.old.cursor)) (λ place. (result ≡ true) × (self.new.cursor ≡ place)) }
+    {
         match next {
             Some(place) => {
                 self.cursor = place;
@@ -243,27 +326,28 @@ impl<'t> Reader<'t> {
     }
 
     /// Notes that the next line doesn't fit.
-    fn miss_here(&mut self) {
+    fn miss_here(&mut self)
+        ensures { self.new ≡ record self.old { worst = self.new.worst } }
+    {
         let line = self.cursor.number();
         self.miss(line);
     }
 
     /// How many parts stand directly below a part, so far.
-    fn kids_of(&self, at: usize) -> usize {
-        let mut count = 0usize;
-        let mut i = at.saturating_add(1);
-        for _ in 0..self.entries.len() {
-            if i >= self.entries.len() {
-                break;
-            }
-            count = count.saturating_add(1);
-            i = i.saturating_add(1).saturating_add(self.entries[i].below);
-        }
-        count
+    fn kids_of(&self, at: usize) -> usize
+        requires { at < length self.now.entries.items }
+        ensures { result ≡ tree_count (forest (drop (at + 1) self.now.entries.items)) }
+    {
+        tree_count(&self.entries.as_slice()[at + 1..])
     }
 
     /// Takes a use.
-    fn take_use(&mut self, growing: &mut Growing<'t>) -> Result<bool, AllocError> {
+    fn take_use(&mut self, growing: &mut Growing<'t>) -> Result<bool, AllocError>
+        ensures kept { OnOk result (self.new ≡ record self.old { cursor = self.new.cursor; worst = self.new.worst }) }
+        ensures text { OnOk result (IsTaken self.old.cursor self.new.cursor) }
+        ensures grows { IfOk result (λ b. OnTrue b (Grows self.old.prefix.now growing.old growing.new)) }
+        ensures takes { IfOk result (λ b. OnTrue b ((c : _) → MayBecome growing.new c → IsUse (left self.old.cursor) (hole c 0) (left self.new.cursor))) }
+    {
         if !is_blank_part(growing) {
             return Ok(false);
         }
@@ -281,7 +365,12 @@ impl<'t> Reader<'t> {
     }
 
     /// Takes user code.
-    fn take_code(&mut self, growing: &mut Growing<'t>) -> Result<bool, AllocError> {
+    fn take_code(&mut self, growing: &mut Growing<'t>) -> Result<bool, AllocError>
+        ensures kept { OnOk result (self.new ≡ record self.old { cursor = self.new.cursor; worst = self.new.worst }) }
+        ensures text { OnOk result (IsTaken self.old.cursor self.new.cursor) }
+        ensures grows { IfOk result (λ b. OnTrue b (Grows self.old.prefix.now growing.old growing.new)) }
+        ensures takes { IfOk result (λ b. OnTrue b ((c : _) → MayBecome growing.new c → IsCode (left self.old.cursor) (hole c 0) (left self.new.cursor))) }
+    {
         if !is_blank_part(growing) {
             return Ok(false);
         }
@@ -299,7 +388,12 @@ impl<'t> Reader<'t> {
     }
 
     /// Takes the entries of a table.
-    fn take_entries(&mut self, growing: &mut Growing<'t>) -> Result<bool, AllocError> {
+    fn take_entries(&mut self, growing: &mut Growing<'t>) -> Result<bool, AllocError>
+        ensures kept { OnOk result (self.new ≡ record self.old { cursor = self.new.cursor; worst = self.new.worst }) }
+        ensures text { OnOk result (IsTaken self.old.cursor self.new.cursor) }
+        ensures grows { IfOk result (λ b. OnTrue b (Grows self.old.prefix.now growing.old growing.new)) }
+        ensures takes { IfOk result (λ b. OnTrue b ((c : _) → MayBecome growing.new c → entries (left self.old.cursor) ≡ Some (c.numbers, left self.new.cursor))) }
+    {
         if growing.tabled {
             return Ok(false);
         }
@@ -320,7 +414,9 @@ impl<'t> Reader<'t> {
 
     /// Whether the lines in front begin the part.
     #[cycle(looking)]
-    fn begins(&mut self, depth: usize, part: Part) -> Result<bool, AllocError> {
+    fn begins(&mut self, depth: usize, part: Part) -> Result<bool, AllocError>
+        ensures { OnOk result (self.new ≡ record self.old { worst = self.new.worst }) }
+    {
         if depth == 0 {
             return Ok(false);
         }
@@ -354,7 +450,9 @@ impl<'t> Reader<'t> {
     }
 
     /// Whether the next line begins a use.
-    fn begins_use(&mut self) -> bool {
+    fn begins_use(&mut self) -> bool
+        ensures { self.new ≡ record self.old { worst = self.new.worst } }
+    {
         match self.cursor.line() {
             Some(line) if line.starts_with("use ") => true,
             _ => {
@@ -367,7 +465,10 @@ impl<'t> Reader<'t> {
 
     /// The part of a class that the lines in front begin.
     #[cycle(looking)]
-    fn pick(&mut self, depth: usize, class: Class) -> Result<Option<Part>, AllocError> {
+    fn pick(&mut self, depth: usize, class: Class) -> Result<Option<Part>, AllocError>
+        ensures kept { OnOk result (self.new ≡ record self.old { worst = self.new.worst }) }
+        ensures member { IfOk result (λ r. IfSome r (λ part. is_member class part ≡ true)) }
+    {
         for part in members(class) {
             if self.begins(depth, *part)? {
                 return Ok(Some(*part));
@@ -378,10 +479,22 @@ impl<'t> Reader<'t> {
 
     /// Reads one part of a class.
     #[cycle(reading)]
-    fn read_class(&mut self, depth: usize, at: usize, class: Class) -> Result<bool, AllocError> {
-        if class == Class::ActionBody {
-            return self.read_body(depth, at);
+    fn read_class(&mut self, depth: usize, at: usize, class: Class) -> Result<bool, AllocError>
+        ensures extends { OnOk result (Extends self.old self.new) }
+        ensures adds { IfOk result (λ b. OnTrue b (AddsBelow (step_of.One class) self.old self.new)) }
+    {
+        match class {
+            Class::ActionBody => self.read_body(depth, at),
+            _ => self.read_member(depth, class),
         }
+    }
+
+    /// Reads the one part of a class, or that which the lines in front begin.
+    #[cycle(reading)]
+    fn read_member(&mut self, depth: usize, class: Class) -> Result<bool, AllocError>
+        ensures extends { OnOk result (Extends self.old self.new) }
+        ensures adds { IfOk result (λ b. OnTrue b (AddsBelow (step_of.One class) self.old self.new)) }
+    {
         let parts = members(class);
         if parts.len() == 1 {
             return self.read_part(depth, parts[0]);
@@ -394,7 +507,10 @@ impl<'t> Reader<'t> {
 
     /// Reads a part of a class, if one is there.
     #[cycle(reading)]
-    fn read_optional(&mut self, depth: usize, class: Class) -> Result<bool, AllocError> {
+    fn read_optional(&mut self, depth: usize, class: Class) -> Result<bool, AllocError>
+        ensures extends { OnOk result (Extends self.old self.new) }
+        ensures adds { IfOk result (λ b. OnTrue b (AddsBelow (step_of.Optional class) self.old self.new)) }
+    {
         match self.pick(depth, class)? {
             Some(part) => self.read_part(depth, part),
             None => Ok(true),
@@ -403,8 +519,11 @@ impl<'t> Reader<'t> {
 
     /// Reads as many parts of a class as there are.
     #[cycle(reading)]
-    fn read_many(&mut self, depth: usize, class: Class) -> Result<bool, AllocError> {
-        for _ in 0..self.cursor.text().len() {
+    fn read_many(&mut self, depth: usize, class: Class) -> Result<bool, AllocError>
+        ensures extends { OnOk result (Extends self.old self.new) }
+        ensures adds { IfOk result (λ b. OnTrue b (AddsBelow (step_of.Many class) self.old self.new)) }
+    {
+        for _i in 0..self.cursor.text().len() {
             match self.pick(depth, class)? {
                 Some(part) => {
                     if !self.read_part(depth, part)? {
@@ -425,8 +544,11 @@ impl<'t> Reader<'t> {
         at: usize,
         first: Class,
         second: Class,
-    ) -> Result<bool, AllocError> {
-        for _ in 0..self.cursor.text().len() {
+    ) -> Result<bool, AllocError>
+        ensures extends { OnOk result (Extends self.old self.new) }
+        ensures adds { IfOk result (λ b. OnTrue b (AddsBelow (step_of.Pairs first second) self.old self.new)) }
+    {
+        for _i in 0..self.cursor.text().len() {
             match self.pick(depth, first)? {
                 Some(part) => {
                     if !self.read_part(depth, part)? || !self.read_class(depth, at, second)? {
@@ -442,7 +564,10 @@ impl<'t> Reader<'t> {
     /// Reads the body of an action: inlined actions where the parameters are theirs, or where there
     /// are none and the lines are those of inlined actions; else user code.
     #[cycle(reading)]
-    fn read_body(&mut self, depth: usize, at: usize) -> Result<bool, AllocError> {
+    fn read_body(&mut self, depth: usize, at: usize) -> Result<bool, AllocError>
+        ensures extends { OnOk result (Extends self.old self.new) }
+        ensures adds { IfOk result (λ b. OnTrue b (AddsBelow (step_of.One class_of.ActionBody) self.old self.new)) }
+    {
         match self.last_parameter(at) {
             Parameters::User => self.read_part(depth, Part::UserBody),
             Parameters::Inlined => self.read_part(depth, Part::InlineBody),
