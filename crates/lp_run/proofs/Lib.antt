@@ -1,4 +1,3 @@
-pub mod Known
 pub mod Rows
 pub mod Whole
 pub mod Answering

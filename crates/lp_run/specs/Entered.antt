@@ -1,6 +1,5 @@
 -- What a whole program becomes under a public name: the code of the module that the name enters.
-use Rattle.std.specs.Prelude.{◌≡◌, ℕ, Bool, List, map, Option, Some, None, IfSome, if◌then◌else◌}
-use Rattle.std.specs.Option.{option_map, option_and_then}
+use Rattle.std.specs.Prelude.{◌≡◌, ℕ, Bool, List, map, Option, Some, None, if◌then◌else◌}
 use Rattle.lp_tree.specs.declared.tree.Program.{Program}
 use Rattle.lp_tree.specs.ProgramTree.{program_items}
 use Rattle.lp_view.specs.PartLists.{Form}
@@ -35,15 +34,14 @@ abbrev pub ready_of : Option ℕ → Parsing → Ready
 ready_of closure parsing = record { parsing = parsing; closure = closure }
 
 -- the `parse` method comes last
-abbrev pub with_parse : Form → Names → Making → Option Ready
-with_parse items names m = option_map (ready_of m.item_closure) (parse_made m items names)
+abbrev pub with_parse : Form → Names → Making → Ready
+with_parse items names m = ready_of m.item_closure (parse_made m items names)
 
 -- the functions of actions come after those of the module
-abbrev pub with_functions : Form → Names → List (ℕ × Form) → Promising → Option Ready
-with_functions items names actions s =
-    option_and_then (λ m. with_parse items names (actions_made m actions)) (all_made s.made s.promises)
+abbrev pub with_functions : Form → Names → List (ℕ × Form) → Promising → Ready
+with_functions items names actions s = with_parse items names (actions_made (all_made s.made s.promises) actions)
 
-unfoldable pub made_after : Form → Names → Beginning → Option Ready
+unfoldable pub made_after : Form → Names → Beginning → Ready
 made_after items names b = with_functions items names b.actions.promises (module_rows (with_source items b.located b.actions.made) items)
 
 abbrev pub finished_module : ℕ → Bool → Ready → Module
@@ -57,15 +55,14 @@ finished_module params located r = record {
   located = located;
 }
 
-abbrev pub module_with : Form → Names → Beginning → Option Module
-module_with items names b = option_map (finished_module names.next b.located) (made_after items names b)
+abbrev pub module_with : Form → Names → Beginning → Module
+module_with items names b = finished_module names.next b.located (made_after items names b)
 
--- The code of these items of a program, which has this prefix. None where it has functions or a start of recursive
--- ascent, of which nothing is said.
-unfoldable pub module_made : List ℕ → Form → Form → Option Module
+-- the code of these items of a program, which has this prefix
+unfoldable pub module_made : List ℕ → Form → Form → Module
 module_made prefix program items = module_with items (parameters_of prefix items) (beginning (unmade prefix) program)
 
-abbrev pub module_in : Program → Form → Option Module
+abbrev pub module_in : Program → Form → Module
 module_in program items = module_made program.prefix (program_items program) items
 
 -- how many parameters the grammar has
@@ -75,7 +72,7 @@ parameter_count program items = (parameters_of program.prefix items).next
 -- the code that was entered for these items
 pub record Enters (program : Program) (items : Form) (e : Entered) : Type 0 where
   pub params : e.params ≡ parameter_count program items
-  pub code : IfSome (module_in program items) (λ m. module_of e ≡ m)
+  pub code : module_of e ≡ module_in program items
 
 -- code was entered for the items that there are
 abbrev pub EntersSome : Program → Option Form → Entered → Type 0

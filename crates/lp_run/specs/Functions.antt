@@ -1,6 +1,5 @@
 -- The functions of a module and of actions, made where all of them are declared.
 use Rattle.std.specs.Prelude.{ℕ, List, [], ◌∷◌, Option, Some, None, slice_get, if◌then◌else◌}
-use Rattle.std.specs.Option.{option_and_then}
 use Rattle.lp_core.specs.declared.expr.Function.{Function}
 use Rattle.lp_form.specs.declared.part.Part.TheVariants as part
 use Rattle.lp_view.specs.PartLists.{Form, is_a, hole_of, parts_of}
@@ -11,6 +10,8 @@ use Rattle.lp_bodies.specs.Actions.{action_function, with_action}
 use Rattle.lp_bodies.specs.Reductions.{reduce_function, with_reduce, reduce_fn, with_reduce_fn, pop_function}
 use Rattle.lp_bodies.specs.Tables.{lookup_function, goto_function, integer_function, with_integers, symbol_function, with_symbols, expected_function, expected_closure, expected_states_function, with_states_closure}
 use Rattle.lp_bodies.specs.Trials.{simulate_function, accepts_function}
+use Rattle.lp_ascent_bodies.specs.AscentStates.{state_fn, with_state_fn}
+use Rattle.lp_ascent_bodies.specs.AscentTrials.{ascent_simulate, ascent_accepts, ascent_expected, with_ascent_expected}
 use Rattle.lp_run.specs.Promised.{is_action_lookup, is_lookup, is_trial, is_reduction}
 
 -- a function, and what was made besides
@@ -46,19 +47,27 @@ abbrev pub reduction_made : Making → Form → Made
 reduction_made m form =
     if is_a part.Pop form then made_of (pop_function m form) (with_variant (hole_of 0 form) m) else (if is_a part.ReduceFn form then made_of (reduce_fn m form) (with_reduce_fn form m) else (if is_a part.Reduce form then made_of (reduce_function m form) (with_reduce form m) else made_of without_meaning m))
 
--- The function of a form of a module. Of the functions of recursive ascent nothing is said.
-unfoldable pub function_made : Making → Form → Option Made
+-- a function of recursive ascent
+abbrev pub ascent_made : Making → Form → Made
+ascent_made m form =
+    if is_a part.StateFn form then made_of (state_fn m form) (with_state_fn form m) else (if is_a part.AscentSimulate form then made_of (ascent_simulate form) m else (if is_a part.AscentAccepts form then made_of (ascent_accepts m form) m else made_of (ascent_expected m) (with_ascent_expected m)))
+
+-- the function of a form of a module
+unfoldable pub function_made : Making → Form → Made
 function_made m form =
-    if is_lookup form then Some (lookup_made m form) else (if is_trial form then Some (trial_made m form) else (if is_reduction form then Some (reduction_made m form) else None))
+    if is_lookup form then lookup_made m form else (if is_trial form then trial_made m form else (if is_reduction form then reduction_made m form else ascent_made m form))
 
 -- a function stands under its number
 abbrev pub placed : ℕ → Made → Making
 placed number made = defined number made.function made.making
 
--- the functions of a module, where something is said of each
-abbrev pub all_made : Making → List (ℕ × Form) → Option Making
-all_made m [] = Some m
-all_made m (one ∷ others) = option_and_then (λ made. all_made (placed one.0 made) others) (function_made m one.1)
+abbrev pub one_made : Making → ℕ × Form → Making
+one_made m one = placed one.0 (function_made m one.1)
+
+-- the functions of a module
+abbrev pub all_made : Making → List (ℕ × Form) → Making
+all_made m [] = m
+all_made m (one ∷ others) = all_made (one_made m one) others
 
 abbrev pub action_made : Making → ℕ × Form → Making
 action_made m one = defined one.0 (action_function m one.1) (with_action one.1 m)

@@ -6,8 +6,10 @@ use Rattle.lp_view.specs.PartLists.{Form, is_a, hole_of, parts_of, over, first_t
 use Rattle.lp_maker.specs.declared.methods.Methods.{Methods}
 use Rattle.lp_maker.specs.Slots.{Names, no_names, bound, slot_of}
 use Rattle.lp_maker.specs.Texts.{Binding, Nothing, Triple, Named, bound_of, plain}
-use Rattle.lp_maker.specs.Making.{Making}
+use Rattle.lp_maker.specs.Making.{Making, with_function}
 use Rattle.lp_bodies.specs.MachineMethods.{methods_of, with_methods}
+use Rattle.lp_bodies.specs.Reductions.{Done, function_done}
+use Rattle.lp_ascent_bodies.specs.AscentStarts.{start}
 use Rattle.lp_run.specs.Named.{parser_of}
 use Rattle.lp_run.specs.declared.parse.Parser.{Parser}
 use Rattle.lp_run.specs.declared.parse.Parser.TheVariants as parser
@@ -82,19 +84,26 @@ driving m f (Some machine) =
 abbrev pub driven_by : Making → Form → Names → Form → Parsing
 driven_by m items names form = driving m (fields names form) (first_that (is_a part.MachineImpl) (parts_of items))
 
--- Of a start of recursive ascent nothing is said.
-abbrev pub started : Making → Option Form → Option Parsing
-started m None = Some (parsing_of no_call m)
-started m (Some start) = None
+-- a call of a function without a name, which comes last
+abbrev pub by_function : ℕ → Done → Parsing
+by_function params d = parsing_of (By_call (length d.made.functions)) (with_function (Some (function_done params d)) d.made)
 
-abbrev pub called : Making → Form → Names → Form → Option Form → Option Parsing
-called m items names form None = started m (first_that (is_a part.Start) (parts_of form))
-called m items names form (Some drive) = Some (driven_by m items names drive)
+-- the start of recursive ascent is such a function, of the parameters
+abbrev pub start_function : Making → Names → Form → Parsing
+start_function m names form = by_function names.next (start m names form)
 
-abbrev pub parser_called : Making → Form → Names → Option Form → Option Parsing
-parser_called m items names None = Some (parsing_of no_call m)
+abbrev pub started : Making → Names → Option Form → Parsing
+started m names None = parsing_of no_call m
+started m names (Some form) = start_function m names form
+
+abbrev pub called : Making → Form → Names → Form → Option Form → Parsing
+called m items names form None = started m names (first_that (is_a part.Start) (parts_of form))
+called m items names form (Some drive) = driven_by m items names drive
+
+abbrev pub parser_called : Making → Form → Names → Option Form → Parsing
+parser_called m items names None = parsing_of no_call m
 parser_called m items names (Some form) = called m items names form (first_that (is_a part.Drive) (parts_of form))
 
--- what the `parse` method of items does, where something is said of it
-unfoldable pub parse_made : Making → Form → Names → Option Parsing
+-- what the `parse` method of items does
+unfoldable pub parse_made : Making → Form → Names → Parsing
 parse_made m items names = parser_called m items names (parser_of items)

@@ -63,20 +63,13 @@ drive_finish budget (Err stop.Spent) calls left = Some (Spent calls budget)
 drive_finish budget (Err stop.Stuck) calls left = Some (Stuck (budget - left))
 drive_finish budget (Err stop.Memory) calls left = None
 
--- the run of a module began
-abbrev pub HasBegun : Finish → Type 0
-HasBegun NoStart = ⊥
-HasBegun ParameterCount = ⊥
-HasBegun _ = Unit {0}
-
--- A run of a module is one over tables that have its entries. Of a module of which nothing is said, a run began.
-abbrev pub RunsModule : Option Module → List RunItem → List Text → List ℕ → ℕ → Finish → Type 0
-RunsModule None items params failing budget told = HasBegun told
-RunsModule (Some m) items params failing budget told =
+-- a run of a module is one over tables that have its entries
+abbrev pub RunsModule : Module → List RunItem → List Text → List ℕ → ℕ → Finish → Type 0
+RunsModule m items params failing budget told =
     (tables : List Table) × (map entries_of tables ≡ m.tables) × (told ≡ module_run m tables items params failing budget)
 
 -- whether there are as many values as parameters
-abbrev pub RunsCounted : Bool → Option Module → List RunItem → List Text → List ℕ → ℕ → Finish → Type 0
+abbrev pub RunsCounted : Bool → Module → List RunItem → List Text → List ℕ → ℕ → Finish → Type 0
 RunsCounted true m items params failing budget told = RunsModule m items params failing budget told
 RunsCounted false m items params failing budget told = told ≡ ParameterCount
 

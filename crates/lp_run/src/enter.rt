@@ -1,6 +1,6 @@
 //! A program is entered once: its forms become functions of the core language.
 
-ghost use Rattle.std.specs.Prelude.{◌≡◌, None, OnOk, IfOk, IfSome, MatchOption};
+ghost use Rattle.std.specs.Prelude.{◌≡◌, None, OnOk, IfOk, MatchOption};
 ghost use Rattle.std.specs.Option.{option_map};
 ghost use Rattle.lp_tree.specs.ProgramTree.{program_items};
 ghost use Rattle.lp_view.specs.PartLists.{listed};
@@ -91,7 +91,7 @@ fn made_after<'p>(
     names: Scope,
     begun: Begun<'p>,
 ) -> Result<(Parser, Option<usize>), AllocError>
-    ensures { IfOk result (λ r. IfSome (made_after (listed items.entry) names (beginning_of begun.entry.located (promises_of begun.entry.actions.items) (making maker.old))) (λ s. ready_of r.1 (parsing_of (parse_of r.0) (making maker.new)) ≡ s)) }
+    ensures { IfOk result (λ r. ready_of r.1 (parsing_of (parse_of r.0) (making maker.new)) ≡ made_after (listed items.entry) names (beginning_of begun.entry.located (promises_of begun.entry.actions.items) (making maker.old))) }
 {
     with_source(maker, items, begun.located)?;
     let promises = module_rows(maker, items)?;

@@ -1,11 +1,11 @@
 //! The functions of a module and of actions, made where all of them are declared.
 
-ghost use Rattle.std.specs.Prelude.{◌≡◌, IfOk, OnOk, IfSome};
+ghost use Rattle.std.specs.Prelude.{◌≡◌, IfOk, OnOk};
 ghost use Rattle.std.specs.Option.{option_map};
 ghost use Rattle.lp_view.specs.PartLists.{listed};
 ghost use Rattle.lp_maker.specs.Making.{making};
 ghost use Rattle.lp_run.specs.Promised.{promise_of, promises_of};
-ghost use Rattle.lp_run.specs.Functions.{made_of, without_meaning, lookup_made, expected_made, accepts_made, trial_made, reduction_made, function_made, all_made, action_made, actions_made};
+ghost use Rattle.lp_run.specs.Functions.{made_of, without_meaning, lookup_made, expected_made, accepts_made, trial_made, reduction_made, ascent_made, function_made, one_made, all_made, action_made, actions_made};
 
 use crate::promised::{is_action_lookup, is_lookup, is_reduction, is_trial};
 use lp_ascent_bodies::ascent::state_fn;
@@ -93,7 +93,9 @@ fn reduction_made<'p>(maker: &mut Maker<'p>, form: Form<'p>) -> Result<Function,
 }
 
 // A function of recursive ascent.
-fn ascent_made<'p>(maker: &mut Maker<'p>, form: Form<'p>) -> Result<Function, AllocError> {
+fn ascent_made<'p>(maker: &mut Maker<'p>, form: Form<'p>) -> Result<Function, AllocError>
+    ensures { IfOk result (λ f. made_of f (making maker.new) ≡ ascent_made (making maker.old) (listed form.entry)) }
+{
     if is_a(Part::StateFn, form) {
         state_fn(maker, form)
     } else if is_a(Part::AscentSimulate, form) {
@@ -108,7 +110,7 @@ fn ascent_made<'p>(maker: &mut Maker<'p>, form: Form<'p>) -> Result<Function, Al
 // The function of a form of a module.
 #[tactic(auto, unfolding(crate::specs::Functions::function_made))]
 fn function_made<'p>(maker: &mut Maker<'p>, form: Form<'p>) -> Result<Function, AllocError>
-    ensures { IfOk result (λ f. IfSome (function_made (making maker.old) (listed form.entry)) (λ m. made_of f (making maker.new) ≡ m)) }
+    ensures { IfOk result (λ f. made_of f (making maker.new) ≡ function_made (making maker.old) (listed form.entry)) }
 {
     if is_lookup(form) {
         lookup_made(maker, form)
@@ -121,14 +123,21 @@ fn function_made<'p>(maker: &mut Maker<'p>, form: Form<'p>) -> Result<Function, 
     }
 }
 
+fn one_made<'p>(maker: &mut Maker<'p>, one: &(usize, Form<'p>)) -> Result<(), AllocError>
+    ensures { OnOk result (making maker.new ≡ one_made (making maker.old) (promise_of one.now)) }
+{
+    let (number, form) = *one;
+    let function = function_made(maker, form)?;
+    maker.define(number, function);
+    Ok(())
+}
+
 /// The functions of a module.
 pub fn all_made<'p>(maker: &mut Maker<'p>, promises: &[(usize, Form<'p>)]) -> Result<(), AllocError>
-    ensures { OnOk result (IfSome (all_made (making maker.old) (promises_of promises.now)) (λ m. making maker.new ≡ m)) }
+    ensures { OnOk result (making maker.new ≡ all_made (making maker.old) (promises_of promises.now)) }
 {
     for one in promises {
-        let (number, form) = *one;
-        let function = function_made(maker, form)?;
-        maker.define(number, function);
+        one_made(maker, one)?;
     }
     Ok(())
 }

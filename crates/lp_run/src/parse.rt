@@ -1,12 +1,12 @@
 //! The `parse` method of a start: its parameters, and what it does.
 
-ghost use Rattle.std.specs.Prelude.{◌≡◌, [], IfOk, OnOk, IfSome};
+ghost use Rattle.std.specs.Prelude.{◌≡◌, [], IfOk, OnOk};
 ghost use Rattle.std.specs.Option.{option_map};
 ghost use Rattle.lp_view.specs.PartLists.{listed, over, parts_of};
 ghost use Rattle.lp_maker.specs.Texts.{binding};
 ghost use Rattle.lp_maker.specs.Slots.{no_names};
 ghost use Rattle.lp_maker.specs.Making.{making};
-ghost use Rattle.lp_run.specs.ParseMethod.{parse_of, with_parameter, with_binding, parameter_row, header_names, parser_names, parameters_of, fields_of, field_row, fields, parsing_of, driving, driven_by, started, called, parser_called, parse_made};
+ghost use Rattle.lp_run.specs.ParseMethod.{parse_of, with_parameter, with_binding, parameter_row, header_names, parser_names, parameters_of, fields_of, field_row, fields, parsing_of, driving, driven_by, start_function, started, called, parser_called, parse_made};
 
 use crate::named::{first_part, parser_of};
 use lp_ascent_bodies::ascent::start;
@@ -182,12 +182,15 @@ fn start_function<'p>(
     maker: &mut Maker<'p>,
     names: Scope,
     form: Form<'p>,
-) -> Result<Parser, AllocError> {
+) -> Result<Parser, AllocError>
+    ensures { IfOk result (λ p. parsing_of (parse_of p) (making maker.new) ≡ start_function (making maker.old) names (listed form.entry)) }
+{
     let mut names = names;
     let params = names.slots();
     let body = start(maker, &mut names, form)?;
     let function = maker.function(params, &names, body);
-    Ok(Parser::Ascent(maker.closure(function)?))
+    let number = maker.closure(function)?;
+    Ok(Parser::Ascent(number))
 }
 
 fn started<'p>(
@@ -195,7 +198,7 @@ fn started<'p>(
     names: Scope,
     start: Option<Form<'p>>,
 ) -> Result<Parser, AllocError>
-    ensures { IfOk result (λ p. IfSome (started (making maker.old) (option_map listed start.entry)) (λ s. parsing_of (parse_of p) (making maker.new) ≡ s)) }
+    ensures { IfOk result (λ p. parsing_of (parse_of p) (making maker.new) ≡ started (making maker.old) names (option_map listed start.entry)) }
 {
     match start {
         None => Ok(Parser::Ascent(usize::MAX)),
@@ -210,7 +213,7 @@ fn called<'p>(
     form: Form<'p>,
     drive: Option<Form<'p>>,
 ) -> Result<Parser, AllocError>
-    ensures { IfOk result (λ p. IfSome (called (making maker.old) (listed items.entry) names (listed form.entry) (option_map listed drive.entry)) (λ s. parsing_of (parse_of p) (making maker.new) ≡ s)) }
+    ensures { IfOk result (λ p. parsing_of (parse_of p) (making maker.new) ≡ called (making maker.old) (listed items.entry) names (listed form.entry) (option_map listed drive.entry)) }
 {
     match drive {
         None => started(maker, names, first_part(Part::Start, form)),
@@ -224,7 +227,7 @@ fn parser_called<'p>(
     names: Scope,
     parser: Option<Form<'p>>,
 ) -> Result<Parser, AllocError>
-    ensures { IfOk result (λ p. IfSome (parser_called (making maker.old) (listed items.entry) names (option_map listed parser.entry)) (λ s. parsing_of (parse_of p) (making maker.new) ≡ s)) }
+    ensures { IfOk result (λ p. parsing_of (parse_of p) (making maker.new) ≡ parser_called (making maker.old) (listed items.entry) names (option_map listed parser.entry)) }
 {
     match parser {
         None => Ok(Parser::Ascent(usize::MAX)),
@@ -239,7 +242,7 @@ pub fn parse_made<'p>(
     items: Form<'p>,
     names: Scope,
 ) -> Result<Parser, AllocError>
-    ensures { IfOk result (λ p. IfSome (parse_made (making maker.old) (listed items.entry) names) (λ s. parsing_of (parse_of p) (making maker.new) ≡ s)) }
+    ensures { IfOk result (λ p. parsing_of (parse_of p) (making maker.new) ≡ parse_made (making maker.old) (listed items.entry) names) }
 {
     parser_called(maker, items, names, parser_of(items))
 }

@@ -1,5 +1,4 @@
-use Rattle.std.proofs.Common.{◌≡◌, ℕ, List, refl, ap, ◌∙◌, subst}
-use Rattle.std.specs.Prelude.{IfSome}
+use Rattle.std.proofs.Common.{◌≡◌, ℕ, List, refl, ap, ◌∙◌}
 use Rattle.lp_view.specs.PartLists.{listed}
 use Rattle.lp_view.specs.declared.part.PartRef.{PartRef}
 use Rattle.lp_maker.specs.Making.{making}
@@ -15,9 +14,10 @@ returns c =
     let functions = making c.all_made.new.maker in
     let acted = making c.actions_made.new.maker in
     let promises = c.in_ok-promises.promises.items in
-    let P : List (ℕ × PartRef) → Type 0 = λ l. IfSome (all_made declared (promises_of l)) (λ m. functions ≡ m) in
+    let all : functions ≡ all_made declared (promises_of promises) =
+    c.in_ok-all_made.ensures ∙ ap (λ (l : List (ℕ × PartRef)). all_made declared (promises_of l)) c.as_slice-functions.ensures.value in
     let actions : acted ≡ actions_made functions (promises_of c.args.begun.actions.items) =
     c.in_ok-actions_made.ensures ∙ ap (λ (l : List (ℕ × PartRef)). actions_made functions (promises_of l)) c.as_slice-actions.ensures.value in
     all_after (listed c.args.items) c.args.names (promises_of c.args.begun.actions.items) acted.item_closure (parsing_of (parse_of c.in_ok-parser.parser) (making c.parse_made.new.maker))
     c.args.begun.located (making c.args.maker.now) (making c.with_source.new.maker) declared functions acted (promises_of promises)
-    c.in_ok-with_source.ensures c.in_ok-promises.ensures (subst P c.as_slice-functions.ensures.value c.in_ok-all_made.ensures) actions refl c.in_ok-parser.ensures
+    c.in_ok-with_source.ensures c.in_ok-promises.ensures all actions refl c.in_ok-parser.ensures
