@@ -1,5 +1,5 @@
 -- The lists of states, one per start, and what the check of tables tells of them.
-use Rattle.std.specs.Prelude.{◌≡◌, ℕ, ◌<◌, ◌⊎◌, IsTrue, List, length, Option, Some, None, IfSome, slice_get}
+use Rattle.std.specs.Prelude.{◌≡◌, ℕ, ◌<◌, ◌⊎◌, IsTrue, List, length, Option, Some, None, IfSome, MatchOption, slice_get}
 use Rattle.std.specs.BTreeMap.{keys}
 use Rattle.lp_repr.specs.Names.{same_nonterminal}
 use Rattle.lp_repr.specs.ValidTables.{IsValidTables}
@@ -31,7 +31,7 @@ AreTabled g states = (start : ℕ) → IsTabled g states start
 -- the start has its list, and in the tables of the list this state is the least at which a rule fails, and
 -- this rule the least that fails there
 abbrev pub FailsByTables : Grammar → List StartStates → ℕ → ℕ → ℕ → Type 0
-FailsByTables g states start state rule = IsListed g states start × IfSome (slice_get states start) (λ list. RefusesTables g start list.states (Rule rule state))
+FailsByTables g states start state rule = IsListed g states start × MatchOption (slice_get states start) ⊥ (λ list. RefusesTables g start list.states (Rule rule state))
 
 -- the lists of all lesser starts are there and valid; this start lacks its list, which is rule 1 at state 0,
 -- or its tables aren't valid

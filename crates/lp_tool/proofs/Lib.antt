@@ -1,3 +1,4 @@
 mod Blocks
 mod LinesTold
+mod Tabled
 mod Telling

@@ -7,7 +7,7 @@ use Rattle.lp_emit.specs.declared.errors.EmitError.TheVariants as emit
 use Rattle.lp_plain.specs.Front.{LowersTo}
 use Rattle.lp_repr.specs.declared.lr1.StartStates.{StartStates}
 use Rattle.lp_repr.specs.declared.repr.Grammar.{Grammar}
-use Rattle.lp_starts.specs.Tables.{AreTablesOf}
+use Rattle.lp_starts.specs.Tables.{AreTablesOf, AreValid}
 use Rattle.lp_starts.proofs.Refused.{not_valid}
 use Rattle.lp_syntax.specs.declared.plain.PlainGrammar.{PlainGrammar}
 use Rattle.lp_valid.specs.Refusals.{RefusesGrammar}
@@ -25,6 +25,7 @@ use Rattle.lp_tool.specs.declared.file.Stop.{Stop}
 use Rattle.lp_tool.specs.declared.status.Status.{Status}
 use Rattle.lp_tool.specs.declared.status.Status.TheVariants as status
 use Rattle.lp_tool.specs.declared.tool.Prepared.{Prepared}
+use Rattle.lp_tool.proofs.Tabled.{not_for_tables}
 
 -- a stop with the plain grammar
 pub told_with : (plain : PlainGrammar) (g : Grammar) (s : Status) (answered : Option PlainGrammar) → LowersTo plain g → ToldOf g s → IsOfFile s → Holds plain s answered → Tells answered s
@@ -63,14 +64,14 @@ told_refused g tables (emit.BadGrammar rule place) s a r i = subst (ToldOf g) (s
 told_refused g tables emit.RecoveryInAscent s a r i = subst (ToldOf g) (sym i) (tables, a, r)
 told_refused g tables (emit.NameClash first second) s a r i = subst (ToldOf g) (sym i) (tables, a, r)
 told_refused g tables (emit.TooMany count) s a r i = subst (ToldOf g) (sym i) (tables, a, r)
-told_refused g tables (emit.BadTables start state rule) s a r i = subst (ToldOf g) (sym i) (tables, a, r)
+told_refused g tables (emit.BadTables start state rule) s a r i = absurd (not_for_tables g tables start state rule a r)
 told_refused g tables (emit.BadText place byte) s a r i = subst (ToldOf g) (sym i) (tables, a, r)
 told_refused g tables emit.WriteFault s a r i = absurd r
 
 -- a grammar that may be emitted has its tables
 pub emitted : (g : Grammar) (tables : List StartStates) → AreTablesOrNone g tables → MayBeEmitted g tables → IsEmitted g tables
 emitted g tables a m = ⊎_elim
-    (λ (t : AreTablesOf g tables). (t, m))
+    (λ (t : AreTablesOf g tables × AreValid g tables). (t.0, m))
     (λ (t : (tables ≡ []) × ((rule : ℕ) × (place : ℕ) × RefusesGrammar g (Rule rule place))). absurd (not_valid g t.1.0 t.1.1 t.1.2 m.buildable.sound.1))
     a
 

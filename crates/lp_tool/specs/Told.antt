@@ -7,7 +7,7 @@ use Rattle.lp_lines.specs.File.{IsCutFile}
 use Rattle.lp_plain.specs.Front.{LowersTo}
 use Rattle.lp_repr.specs.declared.lr1.StartStates.{StartStates}
 use Rattle.lp_repr.specs.declared.repr.Grammar.{Grammar}
-use Rattle.lp_starts.specs.Tables.{AreTablesOf, HasNoTables}
+use Rattle.lp_starts.specs.Tables.{AreTablesOf, AreValid, HasNoTables}
 use Rattle.lp_starts.specs.declared.tables.TablesFault.TheVariants as none
 use Rattle.lp_syntax.specs.declared.plain.PlainGrammar.{PlainGrammar}
 use Rattle.lp_valid.specs.Refusals.{RefusesGrammar}
@@ -20,9 +20,9 @@ use Rattle.lp_tool.specs.declared.status.Status.{Status}
 use Rattle.lp_tool.specs.declared.status.Status.TheVariants.{Done, Conflict, TooManyStates, Refused, WriteFault, Memory}
 use Rattle.lp_tool.specs.declared.tool.Prepared.{Prepared}
 
--- the tables of a grammar, or none where it breaks a rule of valid grammars
+-- the tables of a grammar, which are valid, or none where it breaks a rule of valid grammars
 abbrev pub AreTablesOrNone : Grammar → List StartStates → Type 0
-AreTablesOrNone g tables = AreTablesOf g tables ⊎ ((tables ≡ []) × ((rule : ℕ) × (place : ℕ) × RefusesGrammar g (Rule rule place)))
+AreTablesOrNone g tables = (AreTablesOf g tables × AreValid g tables) ⊎ ((tables ≡ []) × ((rule : ℕ) × (place : ℕ) × RefusesGrammar g (Rule rule place)))
 
 -- the bytes of a file give a plain grammar, what it is lowered to, the tables of that, and what
 -- follows the text
@@ -31,8 +31,9 @@ pub record IsFile (bytes : List ℕ) (f : File) : Type 0 where
   pub tables : AreTablesOrNone f.lowered f.tables.items
   pub tail : (text : List ℕ) × IsCutFile bytes text f.tail.items
 
--- its emission is refused
+-- its emission is refused, which it never is for its tables
 abbrev pub IsRefused : Grammar → EmitError → Type 0
+IsRefused g (emit.BadTables start state rule) = ⊥
 IsRefused g error = (tables : List StartStates) × AreTablesOrNone g tables × Refuses g tables error
 
 -- the status that tells of a refusal
