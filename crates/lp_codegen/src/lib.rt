@@ -1,6 +1,7 @@
 //! The calls that print one module, or one part of it, to a writer.
 #![tactic(auto)]
 
+mod actions;
 pub mod ascent;
 mod calls;
 pub mod generator;
@@ -11,4 +12,5 @@ mod modules;
 pub mod parse_table;
 mod parsers;
 
+pub use actions::emit_action_code;
 pub use generator::CodeGenerator;
