@@ -2,39 +2,22 @@
 //!
 //! - `table`, `ascent`: the module of the first start, by tables and by recursive ascent;
 //! - `tokens`: the module of tokens; `actions`: the functions of actions;
-//! - `program`: the program that is built, whose states aren't checked; `emit`: the text of all parsers, whose
-//!   states are; `each write`: the same with each write failing once; `causes`: the texts of its refusals;
+//! - `program`: the program that is built, whose states aren't checked;
 //! - the calls of `parts`.
 
-use crate::changes::Example;
-use crate::emission::{causes, emitted, faulty};
 use crate::parts::{first_start, print_module, print_part};
-use crate::writers::{Answer, answer, options_of, sink_of};
 use lp_codegen::{emit_action_code, intern_token};
 use lp_emit::build_program;
 use lp_program::print_program;
+use lp_stored::changes::Example;
+use lp_stored::writers::{Answer, answer, options_of, sink_of};
 use lp_write::{MemorySink, RustWrite, WriteError};
 use std::alloc::{AllocError, Global};
 
 /// What a call answers, and what it prints.
 pub fn answer_of(alloc: Global, words: &str, example: &Example) -> Result<Answer, AllocError> {
-    let (call, rest) = words.split_once(' ').unwrap_or((words, ""));
-    match call {
-        "emit" => emitted(alloc, rest, example),
-        "each" => faulty(alloc, example),
-        "causes" => causes(alloc),
-        _ => printed(alloc, call, rest, example),
-    }
-}
-
-fn printed(
-    alloc: Global,
-    call: &str,
-    words: &str,
-    example: &Example,
-) -> Result<Answer, AllocError> {
     let mut out = RustWrite::new(sink_of(alloc, words)?, options_of(words));
-    let end = match print_call(alloc, call, words, example, &mut out) {
+    let end = match print_call(alloc, words, example, &mut out) {
         Ok(()) => String::from_str(alloc, "ok")?,
         Err(error) => error.to_string(alloc)?,
     };
@@ -44,11 +27,11 @@ fn printed(
 /// Prints what the call says.
 fn print_call(
     alloc: Global,
-    call: &str,
     words: &str,
     example: &Example,
     out: &mut RustWrite<MemorySink>,
 ) -> Result<(), WriteError> {
+    let (call, rest) = words.split_once(' ').unwrap_or((words, ""));
     let grammar = &example.grammar;
     match call {
         "actions" => emit_action_code(alloc, grammar, out),
@@ -64,7 +47,7 @@ fn print_call(
             Some(start) if call == "table" || call == "ascent" => {
                 print_module(alloc, call, example, start, out)
             }
-            Some(start) => print_part(alloc, call, words, example, start, out),
+            Some(start) => print_part(alloc, call, rest, example, start, out),
             None => Ok(()),
         },
     }

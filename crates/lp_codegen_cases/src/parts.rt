@@ -11,14 +11,14 @@
 ghost use Rattle.std.specs.Prelude.{IsSome, IsTrue};
 ghost use Rattle.lp_codegen.specs.Printing.{start_number};
 
-use crate::cases::number;
-use crate::changes::Example;
-use crate::writers::{has, value};
 use lp_codegen::{CodeGenerator, ascent, parse_table};
 use lp_emit::fits::first_unfit;
 use lp_parts::{MachineParameters, filter_type_parameters_and_where_clauses, state_type};
 use lp_repr::Lr1State;
 use lp_repr::repr::{Grammar, NonterminalString, TypeRepr};
+use lp_stored::cases::number;
+use lp_stored::changes::Example;
+use lp_stored::writers::{has, value};
 use lp_write::{MemorySink, RustWrite, WriteError};
 use std::alloc::{AllocError, Global};
 use std::fmt::Display;

@@ -5,11 +5,9 @@
 
 mod answers;
 mod cases;
-mod faults;
 
 use crate::answers::told;
 use crate::cases::{Case, Want, read_cases};
-use crate::faults::fault_lines;
 use lp_repr::Text;
 use lp_tool::{Report, Status, run_tool};
 use lp_write::{MemorySink, MemorySource};
@@ -33,10 +31,6 @@ const ROOM: usize = 1_000_000;
 fn main(rt: HostRuntime) -> io::Result<()> {
     for name in FILES {
         run_file(&rt, name)?;
-    }
-    let calculator = fs::read(&rt, "calculator.lp")?;
-    for line in fault_lines(rt.alloc(), calculator.as_slice())?.as_slice() {
-        rt.println(line.as_str())?;
     }
     Ok(())
 }

@@ -2,11 +2,12 @@
 //! an empty line, with a line `== NAME` and the line of its words. Then stand its parts, each behind a line
 //! `-- PART`:
 //!
-//! - `file`: the grammar, where it isn't that of the file's beginning;
+//! - `file`: the grammar, where it isn't that of the file's beginning; token lines may follow it;
 //! - `with`: what is changed in the grammar and its states, a line each;
 //! - `ends`: how the call ends, `ok` where this part isn't there;
 //! - `bytes`: how many bytes are printed;
 //! - `prints`: all that is printed, but the line ends at its end;
+//! - `begins`: the lines with which it begins;
 //! - `has`: lines that are printed one after another;
 //! - `in the text`: what is printed stands in the text of all parsers of the grammar.
 
@@ -31,6 +32,7 @@ pub enum Want<'t> {
     Ends(&'t str),
     Bytes(usize),
     Prints(&'t str),
+    Begins(&'t str),
     Has(&'t str),
     InText,
     /// A part of another name.
@@ -77,7 +79,8 @@ fn wants_of<'t>(alloc: Global, parts: &'t str) -> Result<Vec<Want<'t>>, AllocErr
     wants.push(Want::Ends(part_of(parts, "ends").unwrap_or("ok")))?;
     for part in parts.split("\n-- ") {
         let (kind, content) = first_line(part);
-        if !matches!(kind, "file" | "with" | "ends") {
+        // A call without parts has one of no name.
+        if !matches!(kind, "" | "file" | "with" | "ends") {
             wants.push(wanted(kind, content))?;
         }
     }
@@ -88,6 +91,7 @@ fn wanted<'t>(kind: &str, content: &'t str) -> Want<'t> {
     match kind {
         "bytes" => Want::Bytes(number(content)),
         "prints" => Want::Prints(content),
+        "begins" => Want::Begins(content),
         "has" => Want::Has(content),
         "in the text" => Want::InText,
         _ => Want::Unknown,

@@ -20,6 +20,16 @@ pub struct Answer {
     pub output: String,
 }
 
+impl Answer {
+    /// The answer of this end that prints nothing.
+    pub fn ended(alloc: Global, end: &str) -> Result<Answer, AllocError> {
+        Ok(Answer {
+            end: String::from_str(alloc, end)?,
+            output: String::new(alloc),
+        })
+    }
+}
+
 /// The answer of this end, with what a sink took.
 pub fn answer(alloc: Global, end: &str, sink: MemorySink) -> Result<Answer, AllocError> {
     Ok(Answer {

@@ -7,22 +7,25 @@
 //! - `code N CODE`: the code of a user's action;
 //! - `regex TEXT`, `skip TEXT`: a regular expression of the tokens, and one whose matches are skipped.
 //!
-//! In the states of the first start:
+//! In the lists of states, one per start: `no lists`; `list NAME`: a further one, of no states.
+//!
+//! In the states of the first list:
 //!
 //! - `no states`; `states N`: further states, with nothing in them;
-//! - `N without items`, `N without item P`, `N without shifts`, `N without gotos`: what state N lacks, where P
-//!   is a production;
+//! - `N without items`, `N without item P`, `N without shifts`, `N without reductions`, `N without gotos`: what
+//!   state N lacks, where P is a production;
+//! - `N item P I T..`: production P with the dot before symbol I, on these terminals, where `$` is the end of input;
 //! - `N shift T M`, `N goto K M`: to state M on terminal T, after nonterminal K;
-//! - `N reduce P T..`: by production P on these terminals, where `$` is the end of input.
+//! - `N reduce P T..`: by production P on these terminals.
 
 use crate::cases::number;
-use lp_plain::{lowered_of, tables_of};
+use lp_plain::{cut_file, lowered_of, tables_of};
 use lp_repr::parse_tree::Visibility;
 use lp_repr::repr::{
     ActionFnDefnKind, Grammar, InternToken, LrCodeGeneration, MatchEntry, NonterminalData,
     NonterminalString, TypeRepr,
 };
-use lp_repr::{Items, Lr1State, StartStates, Text, Token};
+use lp_repr::{Item, Items, Lr1State, StartStates, Text, Token};
 use std::alloc::{AllocError, Global};
 use std::collections::BTreeMap;
 
@@ -35,7 +38,8 @@ pub struct Example {
 
 /// The grammar of a file with its states, changed; no states where it has no tables.
 pub fn example_of(alloc: Global, file: &str, changes: &str) -> Result<Option<Example>, AllocError> {
-    let Ok((_, grammar)) = lowered_of(alloc, file.as_bytes()) else {
+    let (text, _) = cut_file(file.as_bytes());
+    let Ok((_, grammar)) = lowered_of(alloc, text) else {
         return Ok(None);
     };
     let tables = match tables_of(alloc, &grammar) {
@@ -60,6 +64,8 @@ fn change(alloc: Global, example: &mut Example, line: &str) -> Result<(), AllocE
         "regex" => add_token(alloc, grammar, rest, false)?,
         "skip" => add_token(alloc, grammar, rest, true)?,
         "no" if rest == "starts" => grammar.start_nonterminals.clear(),
+        "no" if rest == "lists" => example.tables.clear(),
+        "list" => example.tables.push(empty_list(alloc, rest)?)?,
         _ => {
             if let Some(table) = example.tables.get_mut(0) {
                 change_states(alloc, &mut table.states.0, word, rest)?;
@@ -164,6 +170,13 @@ fn change_states(
     Ok(())
 }
 
+fn empty_list(alloc: Global, name: &str) -> Result<StartStates, AllocError> {
+    Ok(StartStates {
+        start: named(alloc, name)?,
+        states: Items::new(alloc),
+    })
+}
+
 fn empty_state(alloc: Global) -> Lr1State {
     Lr1State {
         items: Items::new(alloc),
@@ -187,6 +200,7 @@ fn change_state(alloc: Global, state: &mut Lr1State, line: &str) -> Result<(), A
             let tokens = tokens(alloc, others)?;
             state.reductions.0.push((tokens, number(first)))?;
         }
+        "item" => state.items.0.push(item(alloc, first, others)?)?,
         _ => remove(state, first, number(others)),
     }
     Ok(())
@@ -198,9 +212,20 @@ fn remove(state: &mut Lr1State, what: &str, production: usize) {
         "items" => state.items.0.clear(),
         "item" => state.items.0.retain(|item| item.production != production),
         "shifts" => state.shifts.clear(),
+        "reductions" => state.reductions.0.clear(),
         "gotos" => state.gotos.clear(),
         _ => {}
     }
+}
+
+/// An item of a production, by the place of its dot and its lookaheads.
+fn item(alloc: Global, production: &str, words: &str) -> Result<Item, AllocError> {
+    let (index, lookahead) = words.split_once(' ').unwrap_or((words, ""));
+    Ok(Item {
+        production: number(production),
+        index: number(index),
+        lookahead: tokens(alloc, lookahead)?,
+    })
 }
 
 fn tokens(alloc: Global, words: &str) -> Result<Items<Token>, AllocError> {
