@@ -1,6 +1,6 @@
 -- The tables of a grammar are never why its emission is refused.
 use Rattle.std.proofs.Common.{◌≡◌, ◌⊎◌, ◌<◌, ◌≤◌, ℕ, IsTrue, List, [], Option, Some, None, IfSome, MatchOption, ⊎_elim, length, get_or, slice_get, subst, sym, refl, arith}
-use Rattle.std.proofs.lemmas.Bool.Decides.{nat_tests}
+use Rattle.std.proofs.lemmas.Bool.Decides.{Decides-eqb}
 use Rattle.std.proofs.lemmas.Option.{slice_get_cases, slice_get_past}
 use Rattle.std.proofs.lemmas.Slice.Eq.{slice_eq-Decides}
 use Rattle.std.specs.BTreeMap.{keys}
@@ -21,7 +21,7 @@ use Rattle.lp_valid.specs.declared.grammars.GrammarFault.TheVariants as grammar
 use Rattle.lp_tool.specs.Told.{AreTablesOrNone}
 
 same_name : (n : NonterminalString) → IsTrue (same_nonterminal n n)
-same_name n = (slice_eq-Decides nat_tests n.0 n.0 (same_nonterminal n n) refl).1 refl
+same_name n = (slice_eq-Decides Decides-eqb n.0 n.0 (same_nonterminal n n) refl).1 refl
 
 -- a start and its list, and neither
 abbrev Fits : Grammar → ℕ → Option NonterminalString → Option StartStates → Type 0
