@@ -1,4 +1,5 @@
 mod Blocks
+mod Few
 mod LinesTold
 mod Tabled
 mod Telling

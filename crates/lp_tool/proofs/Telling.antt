@@ -25,6 +25,7 @@ use Rattle.lp_tool.specs.declared.file.Stop.{Stop}
 use Rattle.lp_tool.specs.declared.status.Status.{Status}
 use Rattle.lp_tool.specs.declared.status.Status.TheVariants as status
 use Rattle.lp_tool.specs.declared.tool.Prepared.{Prepared}
+use Rattle.lp_tool.proofs.Few.{not_too_many}
 use Rattle.lp_tool.proofs.Tabled.{not_for_tables}
 
 -- a stop with the plain grammar
@@ -56,17 +57,17 @@ holds plain status.WriteFault n = refl
 holds plain status.Memory n = absurd (n refl)
 
 -- an emission that is refused
-pub told_refused : (g : Grammar) (tables : List StartStates) (error : EmitError) (s : Status) → AreTablesOrNone g tables → Refuses g tables error → IsRefusal error s → ToldOf g s
-told_refused g tables emit.Memory s a r i = subst (ToldOf g) (sym i) tt
-told_refused g tables emit.NoStart s a r i = subst (ToldOf g) (sym i) (tables, a, r)
-told_refused g tables emit.Unsupported s a r i = subst (ToldOf g) (sym i) (tables, a, r)
-told_refused g tables (emit.BadGrammar rule place) s a r i = subst (ToldOf g) (sym i) (tables, a, r)
-told_refused g tables emit.RecoveryInAscent s a r i = subst (ToldOf g) (sym i) (tables, a, r)
-told_refused g tables (emit.NameClash first second) s a r i = subst (ToldOf g) (sym i) (tables, a, r)
-told_refused g tables (emit.TooMany count) s a r i = subst (ToldOf g) (sym i) (tables, a, r)
-told_refused g tables (emit.BadTables start state rule) s a r i = absurd (not_for_tables g tables start state rule a r)
-told_refused g tables (emit.BadText place byte) s a r i = subst (ToldOf g) (sym i) (tables, a, r)
-told_refused g tables emit.WriteFault s a r i = absurd r
+pub told_refused : (plain : PlainGrammar) (g : Grammar) (tables : List StartStates) (error : EmitError) (s : Status) → LowersTo plain g → AreTablesOrNone g tables → Refuses g tables error → IsRefusal error s → ToldOf g s
+told_refused plain g tables emit.Memory s l a r i = subst (ToldOf g) (sym i) tt
+told_refused plain g tables emit.NoStart s l a r i = subst (ToldOf g) (sym i) (tables, a, r)
+told_refused plain g tables emit.Unsupported s l a r i = subst (ToldOf g) (sym i) (tables, a, r)
+told_refused plain g tables (emit.BadGrammar rule place) s l a r i = subst (ToldOf g) (sym i) (tables, a, r)
+told_refused plain g tables emit.RecoveryInAscent s l a r i = subst (ToldOf g) (sym i) (tables, a, r)
+told_refused plain g tables (emit.NameClash first second) s l a r i = subst (ToldOf g) (sym i) (tables, a, r)
+told_refused plain g tables (emit.TooMany count) s l a r i = absurd (not_too_many plain g tables count l a r)
+told_refused plain g tables (emit.BadTables start state rule) s l a r i = absurd (not_for_tables g tables start state rule a r)
+told_refused plain g tables (emit.BadText place byte) s l a r i = subst (ToldOf g) (sym i) (tables, a, r)
+told_refused plain g tables emit.WriteFault s l a r i = absurd r
 
 -- a grammar that may be emitted has its tables
 pub emitted : (g : Grammar) (tables : List StartStates) → AreTablesOrNone g tables → MayBeEmitted g tables → IsEmitted g tables

@@ -31,9 +31,12 @@ pub record IsFile (bytes : List ℕ) (f : File) : Type 0 where
   pub tables : AreTablesOrNone f.lowered f.tables.items
   pub tail : (text : List ℕ) × IsCutFile bytes text f.tail.items
 
--- its emission is refused, which it never is for its tables
+-- its emission is refused, which it never is for its tables, for too many states or productions, or for want of
+-- memory, which is a status of its own
 abbrev pub IsRefused : Grammar → EmitError → Type 0
 IsRefused g (emit.BadTables start state rule) = ⊥
+IsRefused g (emit.TooMany count) = ⊥
+IsRefused g emit.Memory = ⊥
 IsRefused g error = (tables : List StartStates) × AreTablesOrNone g tables × Refuses g tables error
 
 -- the status that tells of a refusal

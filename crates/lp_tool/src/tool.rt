@@ -3,6 +3,7 @@
 ghost use Rattle.std.specs.Prelude.{◌≡◌, ◌≢◌, ◌++◌, ◌∷◌, ℕ, List, [], length, codes, string_bytes, IfErr, IfOk, OnOk, None, Some};
 ghost use Rattle.lp_emit.specs.Causes.{MayBeEmitted};
 ghost use Rattle.lp_emit.specs.Texts.{IsEmission};
+ghost use Rattle.lp_plain.specs.Front.{LowersTo};
 ghost use Rattle.lp_tool.specs.Command.{command_of};
 ghost use Rattle.lp_tool.specs.Causes.{Causes, IsOfFile, IsOfWriting, IsStop, StopsReading, Written};
 ghost use Rattle.lp_tool.specs.LinesTold.{IsOfNoLine, TellsLine, ToldOfLines};
@@ -173,7 +174,8 @@ fn prepare_run(alloc: Global, bytes: &[u8], options: Options) -> Result<Prepared
 }
 
 fn text_and_runs(alloc: Global, file: &File, options: &Options) -> Result<(usize, Vec<u8>), Status>
-    requires { AreTablesOrNone file.now.lowered file.now.tables.items }
+    requires lowered { LowersTo file.now.plain file.now.lowered }
+    requires tables { AreTablesOrNone file.now.lowered file.now.tables.items }
     ensures stops { IfErr result IsOfFile }
     ensures told { IfErr result (ToldOf file.now.lowered) }
     ensures lines { IfErr result (ToldOfLines file.now.lowered file.now.tail.items) }
@@ -198,7 +200,8 @@ fn text_and_runs(alloc: Global, file: &File, options: &Options) -> Result<(usize
 
 /// The parser text of a file.
 pub fn emitted(alloc: Global, file: &File, options: &Options) -> Result<String, Status>
-    requires { AreTablesOrNone file.now.lowered file.now.tables.items }
+    requires lowered { LowersTo file.now.plain file.now.lowered }
+    requires tables { AreTablesOrNone file.now.lowered file.now.tables.items }
     ensures stops { IfErr result IsOfFile }
     ensures told { IfErr result (ToldOf file.now.lowered) }
     ensures no_line { IfErr result IsOfNoLine }
