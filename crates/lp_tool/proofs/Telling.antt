@@ -17,8 +17,8 @@ use Rattle.lp_write.specs.Sinks.{Told}
 use Rattle.lp_write.specs.declared.rust.Options.{Options}
 use Rattle.lp_tool.specs.Command.{looks}
 use Rattle.lp_tool.specs.Outputs.{IsReport, IsRunOutput, IsTailIn, first_count}
-use Rattle.lp_tool.specs.Causes.{IsOfFile, IsStop, Written}
-use Rattle.lp_tool.specs.Told.{AreTablesOrNone, Holds, IsEmitted, IsMade, IsPrepared, IsRefusal, IsRefused, Tells, TellsOf, ToldOf, Wrote}
+use Rattle.lp_tool.specs.Causes.{IsOfFile, IsOfWriting, IsStop, Written}
+use Rattle.lp_tool.specs.Told.{AreTablesOrNone, Holds, IsAnswered, IsEmitted, IsMade, IsOfLowered, IsPrepared, IsRefusal, IsRefused, Tells, TellsOf, ToldOf, Wrote}
 use Rattle.lp_tool.specs.declared.command.Command.{Command}
 use Rattle.lp_tool.specs.declared.command.Command.TheVariants as asked
 use Rattle.lp_tool.specs.declared.file.Stop.{Stop}
@@ -55,6 +55,34 @@ holds plain status.TooLong n = refl
 holds plain status.ReadFault n = refl
 holds plain status.WriteFault n = refl
 holds plain status.Memory n = absurd (n refl)
+
+-- a stop with the plain grammar answers it
+pub answered_with : (plain : PlainGrammar) (s : Status) → s ≢ status.Memory → IsOfLowered s → IsAnswered (Some plain) s
+answered_with plain status.Done n o = absurd o
+answered_with plain status.Usage n o = absurd o
+answered_with plain (status.Grammar place) n o = absurd o
+answered_with plain (status.Conflict start path token) n o = tt
+answered_with plain (status.TooManyStates start paths) n o = tt
+answered_with plain (status.Refused error) n o = tt
+answered_with plain (status.TokenLine line) n o = tt
+answered_with plain status.TooLong n o = absurd o
+answered_with plain status.ReadFault n o = absurd o
+answered_with plain status.WriteFault n o = absurd o
+answered_with plain status.Memory n o = absurd (n refl)
+
+-- a call that wrote answers it
+pub answered_written : (plain : PlainGrammar) (s : Status) → IsOfWriting s → IsAnswered (Some plain) s
+answered_written plain status.Done o = tt
+answered_written plain status.WriteFault o = tt
+answered_written plain status.Usage o = absurd o
+answered_written plain (status.Grammar place) o = absurd o
+answered_written plain (status.Conflict start path token) o = absurd o
+answered_written plain (status.TooManyStates start paths) o = absurd o
+answered_written plain (status.Refused error) o = absurd o
+answered_written plain (status.TokenLine line) o = absurd o
+answered_written plain status.TooLong o = absurd o
+answered_written plain status.ReadFault o = absurd o
+answered_written plain status.Memory o = absurd o
 
 -- an emission that is refused
 pub told_refused : (plain : PlainGrammar) (g : Grammar) (tables : List StartStates) (error : EmitError) (s : Status) → LowersTo plain g → AreTablesOrNone g tables → Refuses g tables error → IsRefusal error s → ToldOf g s

@@ -1,5 +1,5 @@
 -- What the status of a call tells of the grammar of its file, and of what was written.
-use Rattle.std.specs.Prelude.{◌≡◌, ◌⊎◌, ℕ, List, [], Option, Some, None}
+use Rattle.std.specs.Prelude.{◌≡◌, ◌⊎◌, ℕ, List, [], Option, Some, None, IsSome}
 use Rattle.lp_emit.specs.Causes.{MayBeEmitted, Refuses}
 use Rattle.lp_emit.specs.declared.errors.EmitError.{EmitError}
 use Rattle.lp_emit.specs.declared.errors.EmitError.TheVariants as emit
@@ -17,7 +17,8 @@ use Rattle.lp_tool.specs.Outputs.{IsOutput}
 use Rattle.lp_tool.specs.declared.command.Command.{Command}
 use Rattle.lp_tool.specs.declared.file.File.{File}
 use Rattle.lp_tool.specs.declared.status.Status.{Status}
-use Rattle.lp_tool.specs.declared.status.Status.TheVariants.{Done, Conflict, TooManyStates, Refused, WriteFault, Memory}
+use Rattle.lp_tool.specs.declared.status.Status.TheVariants.{Done, Usage, Conflict, TooManyStates, Refused, TokenLine, TooLong, ReadFault, WriteFault, Memory}
+use Rattle.lp_tool.specs.declared.status.Status.TheVariants as outcome
 use Rattle.lp_tool.specs.declared.tool.Prepared.{Prepared}
 
 -- the tables of a grammar, which are valid, or none where it breaks a rule of valid grammars
@@ -66,6 +67,24 @@ Tells answered (Conflict start path token) = TellsOf answered (λ g. HasNoTables
 Tells answered (TooManyStates start paths) = TellsOf answered (λ g. HasNoTables g (none.TooManyStates start paths))
 Tells answered (Refused error) = TellsOf answered (λ g. IsRefused g error)
 Tells answered status = Unit {0}
+
+-- a status of a grammar that was lowered, or of want of memory
+abbrev pub IsOfLowered : Status → Type 0
+IsOfLowered (Conflict start path token) = Unit {0}
+IsOfLowered (TooManyStates start paths) = Unit {0}
+IsOfLowered (Refused error) = Unit {0}
+IsOfLowered (TokenLine line) = Unit {0}
+IsOfLowered Memory = Unit {0}
+IsOfLowered other = ⊥
+
+-- a plain grammar is answered exactly under the statuses of one that was lowered and of a call that wrote
+abbrev pub IsAnswered : Option PlainGrammar → Status → Type 0
+IsAnswered answered Usage = answered ≡ None
+IsAnswered answered (outcome.Grammar place) = answered ≡ None
+IsAnswered answered TooLong = answered ≡ None
+IsAnswered answered ReadFault = answered ≡ None
+IsAnswered answered Memory = answered ≡ None
+IsAnswered answered other = IsSome answered
 
 -- the plain grammar is answered, but under want of memory
 abbrev pub Holds : PlainGrammar → Status → Option PlainGrammar → Type 0

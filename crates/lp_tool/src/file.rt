@@ -6,7 +6,7 @@ ghost use Rattle.lp_repr.specs.declared.repr.Grammar.{Grammar};
 ghost use Rattle.lp_tool.specs.Causes.{IsOfFile};
 ghost use Rattle.lp_tool.specs.LinesTold.{IsOfNoLine, TellsLine, ToldOfLines};
 ghost use Rattle.lp_tool.specs.Outputs.{IsTailIn};
-ghost use Rattle.lp_tool.specs.Told.{AreTablesOrNone, Holds, IsFile, Tells, ToldOf};
+ghost use Rattle.lp_tool.specs.Told.{AreTablesOrNone, Holds, IsAnswered, IsFile, IsOfLowered, Tells, ToldOf};
 
 use crate::status::Status;
 use lp_plain::{BytesFault, PlainGrammar, TablesFault, cut_file, lowered_of, tables_of};
@@ -50,6 +50,7 @@ impl Stop {
     pub fn with(status: Status, grammar: PlainGrammar) -> Stop
         ensures status { result.status ≡ status }
         ensures grammar { Holds grammar status result.grammar }
+        ensures answered { IsOfLowered status → IsAnswered result.grammar result.status }
         ensures told { (g : Grammar) → LowersTo grammar g → ToldOf g status → IsOfFile status → Tells result.grammar result.status }
         ensures line { (g : Grammar) → (left : Option (List ℕ)) → (tail : List ℕ) → LowersTo grammar g → IsTailIn left tail → ToldOfLines g tail status → TellsLine left result.grammar result.status }
     {
@@ -67,6 +68,7 @@ impl Stop {
 pub fn file_of(alloc: Global, bytes: &[u8]) -> Result<File, Stop>
     ensures file { IfOk result (IsFile bytes.now) }
     ensures stops { IfErr result (λ stop. IsOfFile stop.status) }
+    ensures answered { IfErr result (λ stop. IsAnswered stop.grammar stop.status) }
     ensures told { IfErr result (λ stop. Tells stop.grammar stop.status) }
     ensures no_line { IfErr result (λ stop. IsOfNoLine stop.status) }
 {
@@ -89,6 +91,7 @@ pub fn file_of(alloc: Global, bytes: &[u8]) -> Result<File, Stop>
 /// The answer on bytes that spell no plain grammar, or one whose lowering is refused.
 fn unread(fault: BytesFault) -> Stop
     ensures stops { IsOfFile result.status }
+    ensures answered { IsAnswered result.grammar result.status }
     ensures told { Tells result.grammar result.status }
     ensures no_line { IsOfNoLine result.status }
 {
@@ -106,6 +109,7 @@ fn tables_and_tail(
     ensures tables { IfOk result (λ both. AreTablesOrNone grammar.now both.0.items) }
     ensures tail { IfOk result (λ both. both.1.items ≡ tail.now) }
     ensures stops { IfErr result IsOfFile }
+    ensures grammar { IfErr result IsOfLowered }
     ensures told { IfErr result (ToldOf grammar.now) }
     ensures no_line { IfErr result IsOfNoLine }
 {
@@ -120,6 +124,7 @@ fn tables_and_tail(
 fn tables_or_none(alloc: Global, grammar: &Grammar) -> Result<Vec<StartStates>, Status>
     ensures tables { IfOk result (λ v. AreTablesOrNone grammar.now v.items) }
     ensures stops { IfErr result IsOfFile }
+    ensures grammar { IfErr result IsOfLowered }
     ensures told { IfErr result (ToldOf grammar.now) }
     ensures no_line { IfErr result IsOfNoLine }
 {

@@ -4,7 +4,7 @@ ghost use Rattle.std.specs.Prelude.{◌≡◌, ◌++◌, ℕ, List, [], Option, 
 ghost use Rattle.lp_tool.specs.Causes.{IsOfFile};
 ghost use Rattle.lp_tool.specs.LinesTold.{IsOfNoLine};
 ghost use Rattle.lp_tool.specs.Outputs.{Course, IsReport, course_text, first_count, size_text};
-ghost use Rattle.lp_tool.specs.Told.{IsPrepared, Tells};
+ghost use Rattle.lp_tool.specs.Told.{IsAnswered, IsPrepared, Tells};
 ghost use Rattle.lp_tool.specs.declared.command.Command.{Command};
 
 use crate::file::{Stop, file_of};
@@ -26,6 +26,7 @@ const BUDGET: u64 = 1_000_000;
 /// steps of the program that the text reads as.
 pub fn prepare_generated(alloc: Global, levels: u8) -> Result<Prepared, Stop>
     ensures stops { IfErr result (λ stop. IsOfFile stop.status) }
+    ensures answered { IfErr result (λ stop. IsAnswered stop.grammar stop.status) }
     ensures told { IfErr result (λ stop. Tells stop.grammar stop.status) }
     ensures no_line { IfErr result (λ stop. IsOfNoLine stop.status) }
     ensures prepared { (left : Option (List ℕ)) → IfOk result (IsPrepared (Some (Command.Make levels)) left) }

@@ -8,7 +8,7 @@ ghost use Rattle.lp_tool.specs.Command.{command_of};
 ghost use Rattle.lp_tool.specs.Causes.{Causes, IsOfFile, IsOfWriting, IsStop, StopsReading, Written};
 ghost use Rattle.lp_tool.specs.LinesTold.{IsOfNoLine, TellsLine, ToldOfLines};
 ghost use Rattle.lp_tool.specs.Outputs.{AreLinesOf, IsRunOutput};
-ghost use Rattle.lp_tool.specs.Told.{AreTablesOrNone, IsPrepared, IsRefusal, Tells, ToldOf, Wrote};
+ghost use Rattle.lp_tool.specs.Told.{AreTablesOrNone, IsAnswered, IsOfLowered, IsPrepared, IsRefusal, Tells, ToldOf, Wrote};
 
 use crate::command::{Command, read_words};
 use crate::file::{File, Stop, file_of};
@@ -55,6 +55,7 @@ pub fn run_tool<S: Source, K: Sink>(
 ) -> Report
     ensures usage { command_of words.now ≡ None → result.status ≡ Status.Usage }
     ensures causes { Causes words.now (S.left source.old) (S.faults source.old) (S.faults source.new) result.status }
+    ensures answered { IsAnswered result.grammar result.status }
     ensures told { Tells result.grammar result.status }
     ensures line { TellsLine (S.left source.old) result.grammar result.status }
     ensures wrote { Wrote (command_of words.now) (S.left source.old) result.grammar result.tables result.text_len (K.told sink.old) (K.told sink.new) result.status }
@@ -102,6 +103,7 @@ fn prepare<S: Source>(alloc: Global, words: &[Text], source: &mut S) -> Result<P
     ensures causes { IfErr result (λ stop. Causes words.now (S.left source.old) (S.faults source.old) (S.faults source.new) stop.status) }
     ensures stops { IfErr result (λ stop. IsStop stop.status) }
     ensures goes { OnOk result (command_of words.now ≢ None) }
+    ensures answered { IfErr result (λ stop. IsAnswered stop.grammar stop.status) }
     ensures told { IfErr result (λ stop. Tells stop.grammar stop.status) }
     ensures line { IfErr result (λ stop. TellsLine (S.left source.old) stop.grammar stop.status) }
     ensures prepared { IfOk result (IsPrepared (command_of words.now) (S.left source.old)) }
@@ -124,6 +126,7 @@ fn prepare<S: Source>(alloc: Global, words: &[Text], source: &mut S) -> Result<P
 fn taken<S: Source>(alloc: Global, source: &mut S) -> Result<Vec<u8>, Stop>
     ensures bytes { IfOk result (λ v. (bytes : List ℕ) → S.left source.old ≡ Some bytes → v.items ≡ bytes) }
     ensures stops { IfErr result (λ stop. StopsReading (S.left source.old) (S.faults source.old) (S.faults source.new) stop.status) }
+    ensures answered { IfErr result (λ stop. IsAnswered stop.grammar stop.status) }
     ensures told { IfErr result (λ stop. Tells stop.grammar stop.status) }
     ensures no_line { IfErr result (λ stop. IsOfNoLine stop.status) }
 {
@@ -138,6 +141,7 @@ fn taken<S: Source>(alloc: Global, source: &mut S) -> Result<Vec<u8>, Stop>
 /// The output of `emit`: the parser text.
 fn prepare_emit(alloc: Global, bytes: &[u8], options: Options) -> Result<Prepared, Stop>
     ensures stops { IfErr result (λ stop. IsOfFile stop.status) }
+    ensures answered { IfErr result (λ stop. IsAnswered stop.grammar stop.status) }
     ensures told { IfErr result (λ stop. Tells stop.grammar stop.status) }
     ensures no_line { IfErr result (λ stop. IsOfNoLine stop.status) }
     ensures prepared { IfOk result (IsPrepared (Some (Command.Emit options)) (Some bytes.now)) }
@@ -157,6 +161,7 @@ fn prepare_emit(alloc: Global, bytes: &[u8], options: Options) -> Result<Prepare
 /// The output of `run`: the parser text, the line `---`, and the block of each token line.
 fn prepare_run(alloc: Global, bytes: &[u8], options: Options) -> Result<Prepared, Stop>
     ensures stops { IfErr result (λ stop. IsOfFile stop.status) }
+    ensures answered { IfErr result (λ stop. IsAnswered stop.grammar stop.status) }
     ensures told { IfErr result (λ stop. Tells stop.grammar stop.status) }
     ensures line { IfErr result (λ stop. TellsLine (Some bytes.now) stop.grammar stop.status) }
     ensures prepared { IfOk result (IsPrepared (Some (Command.Run options)) (Some bytes.now)) }
@@ -177,6 +182,7 @@ fn text_and_runs(alloc: Global, file: &File, options: &Options) -> Result<(usize
     requires lowered { LowersTo file.now.plain file.now.lowered }
     requires tables { AreTablesOrNone file.now.lowered file.now.tables.items }
     ensures stops { IfErr result IsOfFile }
+    ensures grammar { IfErr result IsOfLowered }
     ensures told { IfErr result (ToldOf file.now.lowered) }
     ensures lines { IfErr result (ToldOfLines file.now.lowered file.now.tail.items) }
     ensures emitted { OnOk result (MayBeEmitted file.now.lowered file.now.tables.items) }
@@ -203,6 +209,7 @@ pub fn emitted(alloc: Global, file: &File, options: &Options) -> Result<String, 
     requires lowered { LowersTo file.now.plain file.now.lowered }
     requires tables { AreTablesOrNone file.now.lowered file.now.tables.items }
     ensures stops { IfErr result IsOfFile }
+    ensures grammar { IfErr result IsOfLowered }
     ensures told { IfErr result (ToldOf file.now.lowered) }
     ensures no_line { IfErr result IsOfNoLine }
     ensures emitted { OnOk result (MayBeEmitted file.now.lowered file.now.tables.items) }
@@ -217,6 +224,7 @@ pub fn emitted(alloc: Global, file: &File, options: &Options) -> Result<String, 
 fn token_lines(alloc: Global, grammar: &Grammar, tail: &[u8]) -> Result<Vec<TokenLine>, Status>
     ensures lines { IfOk result (λ lines. AreLinesOf grammar.now tail.now lines.items) }
     ensures stops { IfErr result IsOfFile }
+    ensures grammar { IfErr result IsOfLowered }
     ensures told { IfErr result (ToldOf grammar.now) }
     ensures misfit { IfErr result (ToldOfLines grammar.now tail.now) }
 {
@@ -251,6 +259,7 @@ fn joined(text: String, blocks: &[u8]) -> Result<(usize, Vec<u8>), AllocError>
 /// The status that tells of a refused emission.
 fn refused(error: EmitError) -> Status
     ensures stops { IsOfFile result }
+    ensures grammar { IsOfLowered result }
     ensures refusal { IsRefusal error result }
     ensures no_line { IsOfNoLine result }
 {
