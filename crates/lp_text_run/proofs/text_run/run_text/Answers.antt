@@ -1,7 +1,7 @@
 use Rattle.std.proofs.Common.{length, refl, string_bytes}
 use Rattle.std.proofs.lemmas.Option.{slice_get_read}
-use Rattle.lp_tool.proofs.Blocks.{blocks_more}
-use Rattle.lp_tool.proofs.text_run.run_text.Goals as goal
+use Rattle.lp_text_run.proofs.Blocks.{blocks_more}
+use Rattle.lp_text_run.proofs.text_run.run_text.Goals as goal
 
 pub loop-i-preserved : goal.loop-i-preserved
 loop-i-preserved c =
