@@ -1,4 +1,3 @@
-mod Blocks
 mod Few
 mod LinesTold
 mod Tabled

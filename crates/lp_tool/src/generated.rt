@@ -1,9 +1,10 @@
 //! The generated grammar, emitted and run.
 
-ghost use Rattle.std.specs.Prelude.{◌≡◌, ◌++◌, ℕ, List, [], Option, None, Some, IfErr, IfOk, OnOk, length, string_bytes};
+ghost use Rattle.std.specs.Prelude.{◌≡◌, ◌++◌, ℕ, List, [], Option, None, Some, IfErr, IfOk, OnOk, codes, length, string_bytes};
 ghost use Rattle.lp_tool.specs.Causes.{IsOfFile};
 ghost use Rattle.lp_tool.specs.LinesTold.{IsOfNoLine};
-ghost use Rattle.lp_tool.specs.Outputs.{Course, IsReport, course_text, first_count, size_text};
+ghost use Rattle.lp_text_run.specs.Courses.{Course, IsCourse};
+ghost use Rattle.lp_tool.specs.Outputs.{IsReport, course_text, first_count, size_text};
 ghost use Rattle.lp_tool.specs.Told.{IsAnswered, IsPrepared, Tells};
 ghost use Rattle.lp_tool.specs.declared.command.Command.{Command};
 
@@ -83,7 +84,7 @@ fn write_course(
     items: &[RunItem],
     output: &mut String,
 ) -> Result<(), AllocError>
-    ensures { OnOk result ((course : Course) × (string_bytes output.new ≡ string_bytes output.old ++ course_text course.events course.outcome course.steps)) }
+    ensures { OnOk result ((course : Course) × IsCourse program.now (codes "E0") items.now [] [] 1000000 course × (string_bytes output.new ≡ string_bytes output.old ++ course_text course.events course.outcome course.steps)) }
 {
     match run_program(alloc, program, "E0", items, &[], &[], BUDGET) {
         Ok(run) => write_run(output, &run)?,

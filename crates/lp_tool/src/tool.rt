@@ -7,18 +7,18 @@ ghost use Rattle.lp_plain.specs.Front.{LowersTo};
 ghost use Rattle.lp_tool.specs.Command.{command_of};
 ghost use Rattle.lp_tool.specs.Causes.{Causes, IsOfFile, IsOfWriting, IsStop, StopsReading, Written};
 ghost use Rattle.lp_tool.specs.LinesTold.{IsOfNoLine, TellsLine, ToldOfLines};
-ghost use Rattle.lp_tool.specs.Outputs.{AreLinesOf, IsRunOutput};
+ghost use Rattle.lp_tool.specs.Outputs.{AreLinesOf, IsRunOutput, values_of};
 ghost use Rattle.lp_tool.specs.Told.{AreTablesOrNone, IsAnswered, IsOfLowered, IsPrepared, IsRefusal, Tells, ToldOf, Wrote};
 
 use crate::command::{Command, read_words};
 use crate::file::{File, Stop, file_of};
 use crate::generated::prepare_generated;
 use crate::status::Status;
-use crate::text_run::run_text;
 use lp_emit::{EmitError, emitted_text};
 use lp_plain::{LineFault, PlainGrammar, ReadError, TokenLine, read_all, read_token_lines};
 use lp_repr::repr::Grammar;
 use lp_repr::{Items, StartStates, Text};
+use lp_text_run::run_text;
 use lp_write::sinks::write_all;
 use lp_write::{Options, Sink, Source};
 use std::alloc::{AllocError, Global};
@@ -236,7 +236,9 @@ fn token_lines(alloc: Global, grammar: &Grammar, tail: &[u8]) -> Result<Vec<Toke
 }
 
 /// The value of each parameter: its name.
-pub fn parameter_values(alloc: Global, grammar: &Grammar) -> Result<Vec<Text>, AllocError> {
+pub fn parameter_values(alloc: Global, grammar: &Grammar) -> Result<Vec<Text>, AllocError>
+    ensures { IfOk result (λ values. values.items ≡ values_of grammar.now) }
+{
     let mut values = Vec::new(alloc);
     for parameter in grammar.parameters.as_slice() {
         values.push(parameter.name.clone()?)?;
