@@ -1,6 +1,6 @@
 -- What steps add to a part, one after another.
-use Rattle.std.proofs.Common.{◌≡◌, ℕ, ◌+◌, ◌<◌, ◌≤◌, zero, suc, true, ⊎_elim, List, [], ◌∷◌, ◌++◌, length, get_or, refl, sym, ap, ◌∙◌, arith, append_assoc, append-nil, length-append, subst}
-use Rattle.std.proofs.lemmas.Bool.{cases_lt}
+use Rattle.std.proofs.Common.{◌≡◌, ℕ, ◌+◌, ◌<◌, ◌≤◌, zero, suc, true, false, ⊎_elim, List, [], ◌∷◌, ◌++◌, length, get_or, refl, sym, ap, ◌∙◌, arith, append_assoc, append-nil, length-append, subst}
+use Rattle.std.proofs.lemmas.Bool.{cases_lt, false≢true}
 use Rattle.std.proofs.lemmas.List.{get_or_append_left, nil_from_length}
 use Rattle.lp_form.specs.Templates.{Piece, holes_of}
 use Rattle.lp_form.specs.declared.template.Kind.{Kind}
@@ -102,3 +102,14 @@ pub first_hole : (old : List (List ℕ)) (g : Growing) (c : Content) (text : Lis
 first_hole old g c text e h m =
     let none : old ≡ [] = nil_from_length old e in
     ap (λ x. get_or x 0 []) (m.holes_are ∙ ap (λ x. x ++ m.more) (h ∙ ap (λ x. x ++ text ∷ []) none))
+
+-- a table was read
+pub grows_table : (prefix : List ℕ) (a b : Growing) → b.part ≡ a.part → b.holes ≡ a.holes → b.tabled ≡ true → a.tabled ≡ false → Grows prefix a b
+grows_table prefix a b p h t f = record {
+  part_is = p;
+  more = [];
+  holes_are = ap (λ v. v.items) h ∙ sym (append-nil a.holes.items);
+  fills = λ k l m n. absurd (omega (arith, ap (λ v. length v.items) h, l, m));
+  tabled = λ x. t;
+  numbers = λ x. absurd (false≢true (sym f ∙ x));
+}

@@ -1,5 +1,9 @@
+pub mod Adding
+pub mod Looking
 pub mod Forests
+pub mod Grafts
 pub mod Growing
+pub mod Parts
 pub mod Printing
 pub mod Progress
 pub mod Rows

@@ -1,6 +1,9 @@
 -- Taking uses and user code off a text.
-use Rattle.std.proofs.Common.{◌≡◌, ℕ, ◌+◌, ◌-◌, ◌<◌, ◌≤◌, true, List, ◌∷◌, ◌++◌, length, get_or, take, drop, codes, refl, sym, ◌∙◌, ap, arith, eqb, length-append, length-drop, take-append-drop, subst}
+use Rattle.std.proofs.Common.{◌≡◌, ℕ, ◌+◌, ◌-◌, ◌<◌, ◌≤◌, true, false, ◌==◌, ltb, List, [], ◌∷◌, ◌++◌, length, get_or, take, drop, codes, refl, sym, ◌∙◌, ap, arith, eqb, length-append, length-drop, take-append-drop, subst}
 use Rattle.std.specs.List.{starts_with}
+use Rattle.std.proofs.lemmas.Bool.{and_from, false≢true, lt-ltb}
+use Rattle.lp_texts.specs.Identifiers.{is_identifier}
+use Rattle.lp_program.specs.Reads.{is_prefix}
 use Rattle.std.specs.Str.{IsUtf8, IsCharBoundary, chars}
 use Rattle.std.proofs.lemmas.List.{drop-drop, drop_at, get_or-drop}
 use Rattle.std.proofs.lemmas.Str.{IsCharBoundary-after_ascii}
@@ -56,3 +59,12 @@ code_taken text left whole code next from end l cut le w n b c =
       closes = ap (λ x. starts_with eqb x (codes "}")) n ∙ b;
       code_is = c;
     }
+
+-- a prefix that a name shows
+pub prefix_shown : (prefix name : List ℕ) → (length prefix == 0) ≡ false → is_identifier name ≡ true → name ≡ prefix ++ codes "lalrpop_util" → is_prefix prefix ≡ true
+prefix_shown prefix name some word e =
+    and_from (ltb 0 (length prefix)) (is_identifier (prefix ++ codes "lalrpop_util")) (not_empty prefix some) (ap is_identifier (sym e) ∙ word)
+  where
+    not_empty : (xs : List ℕ) → (length xs == 0) ≡ false → ltb 0 (length xs) ≡ true
+    not_empty [] h = absurd (false≢true (sym h))
+    not_empty (x ∷ xs) h = lt-ltb 0 (length (x ∷ xs)) (omega arith)

@@ -2,6 +2,7 @@
 use Rattle.std.specs.Prelude.{◌≡◌, ℕ, ◌<◌, ◌≤◌, true, List, [], ◌++◌, length, get_or}
 use Rattle.lp_form.specs.Templates.{holes_of}
 use Rattle.lp_program.specs.declared.read.growing.Growing.{Growing}
+use Rattle.lp_tree.specs.declared.tree.Entry.{Entry}
 use Rattle.lp_program.specs.Trees.{Content}
 use Rattle.lp_spelling.specs.Fillings.{Fills}
 use Rattle.lp_spelling.specs.LineReading.{kind_of}
@@ -21,3 +22,10 @@ pub record MayBecome (growing : Growing) (c : Content) : Type 0 where
   pub more : List (List ℕ)
   pub holes_are : c.holes ≡ growing.holes.items ++ more
   pub numbers : growing.tabled ≡ true → c.numbers ≡ growing.numbers.items
+
+-- a part with what its steps told, over so many parts
+pub record IsFilled (old : Entry) (growing : Growing) (below : ℕ) (new : Entry) : Type 0 where
+  pub part_is : new.part ≡ old.part
+  pub holes_are : new.holes ≡ growing.holes
+  pub numbers_are : new.numbers ≡ growing.numbers
+  pub below_is : new.below ≡ below

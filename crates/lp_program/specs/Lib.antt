@@ -7,3 +7,4 @@ pub mod CodeReading
 pub mod Taking
 pub mod Reads
 pub mod Growing
+pub mod Adding

@@ -1,6 +1,6 @@
 //! Printing a program from the templates of its parts.
 
-mod own;
+pub(crate) mod own;
 mod table;
 mod walk;
 

@@ -52,7 +52,7 @@ pub(crate) fn print_own<W: Sink>(
 }
 
 /// How many trees stand side by side.
-fn tree_count(entries: &[Entry<'_>]) -> usize
+pub(crate) fn tree_count(entries: &[Entry<'_>]) -> usize
     ensures { result ≡ tree_count (forest entries.now) }
 {
     let mut count = 0;

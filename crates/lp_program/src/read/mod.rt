@@ -1,7 +1,9 @@
 //! Reading a program from its text.
 
 mod growing;
+mod prefix;
 mod reader;
 mod taking;
+mod told;
 
 pub use reader::{ReadFault, read_program};

@@ -1,14 +1,26 @@
 //! The reader of programs: by the templates of the parts, from the front of the text on.
 
-ghost use Rattle.std.specs.Prelude.{◌≡◌, length, IsTrue};
+ghost use Rattle.std.specs.Prelude.{◌≡◌, ℕ, ◌<◌, ◌+◌, true, Some, List, [], length, IsTrue, IfOk, OnOk, IfSome};
+ghost use Rattle.std.specs.Bool.{OnTrue};
 ghost use Rattle.lp_form.specs.Templates.{holes_of};
+ghost use Rattle.lp_form.specs.Templates as template;
+ghost use Rattle.lp_form.specs.declared.class.Class.TheVariants as class_of;
+ghost use Rattle.lp_form.specs.declared.part.Part.TheVariants as part_of;
+ghost use Rattle.lp_form.specs.declared.template.Step.TheVariants as step_of;
+ghost use Rattle.lp_spelling.specs.Counting.{settled};
+ghost use Rattle.lp_spelling.specs.Cursors.{left};
+ghost use Rattle.lp_program.specs.Adding.{kids, Adds, Brings, FilledAt, IsPair, IsPart, MayHave, Opened, OwnTaken, Reread, StepBrings, StepsBring, WholeRead};
+ghost use Rattle.lp_program.specs.Printed.{is_member};
+ghost use Rattle.lp_program.specs.Reads.{ReadsAs};
 
+use crate::print::own::tree_count;
 use crate::read::growing::{Growing, code_step, line_step, lines_step, use_step};
-use crate::read::taking::{TakenTable, cut_line, take_entries, take_use};
+use crate::read::prefix::{NO_PREFIX, prefix_of};
+use crate::read::taking::{TakenTable, cut_line, take_entries};
+use crate::read::told::{is_blank_part, is_told};
 use lp_form::{Class, Line, Part, Step, holes, members, steps};
 use lp_spelling::cursor::Cursor;
 use lp_spelling::line::{Scope, read_line};
-use lp_texts::is_identifier;
 use lp_tree::piece::Piece;
 use lp_tree::tree::{Entry, Program};
 use std::alloc::{AllocError, Global};
@@ -46,70 +58,28 @@ struct Reader<'t> {
 /// The program that the text reads as. Its texts are borrowed from the text. Outside code, uses and
 /// attributes, blanks at the front of a line, empty lines and comment lines don't count; in table
 /// rows neither do blanks, line ends and what follows `//` after an entry.
-pub fn read_program<'t>(alloc: Global, text: &'t str) -> Result<Program<'t>, ReadFault> {
+pub fn read_program<'t>(alloc: Global, text: &'t str) -> Result<Program<'t>, ReadFault>
+    ensures { IfOk result (ReadsAs text.now) }
+{
+    let shown = prefix_of(text);
     let mut reader = Reader {
         alloc,
-        prefix: prefix_of(text),
+        prefix: shown.unwrap_or(NO_PREFIX),
         cursor: Cursor::new(text),
         worst: 0,
         entries: Vec::new(alloc),
     };
-    if reader.read_part(DEPTH, Part::Program)? && reader.at_end() {
-        let Reader {
-            prefix,
-            entries,
-            ..
-        } = reader;
-        return Ok(Program {
-            prefix: Piece::new(CowStr::Borrowed(prefix)),
-            entries,
-        });
+    if !reader.read_whole()? {
+        return Err(ReadFault::NoForm { line: reader.worst });
     }
-    Err(ReadFault::NoForm { line: reader.worst })
-}
-
-/// What stands for a prefix that isn't shown: no line has it, so that each line that wants the prefix
-/// fails.
-const NO_PREFIX: &str = "\n";
-
-/// The prefix of a name of the standard uses, with what follows it on the line: it isn't empty, and
-/// what it makes of `lalrpop_util` is an identifier.
-fn prefix_in(shown: &str) -> Option<&str> {
-    let name = shown.strip_suffix(";")?;
-    let prefix = name.strip_suffix("lalrpop_util")?;
-    if prefix.is_empty() || !is_identifier(name) {
-        return None;
-    }
-    Some(prefix)
-}
-
-/// The prefix that the standard uses show.
-fn prefix_of(text: &str) -> &str {
-    let mut cursor = Cursor::new(text);
-    for _ in 0..text.len() {
-        let Some(line) = cursor.line() else {
-            return NO_PREFIX;
-        };
-        if line.starts_with("use ") {
-            match take_use(cursor) {
-                Some(taken) => cursor = taken.next,
-                None => return NO_PREFIX,
-            }
-        } else {
-            if let Some(shown) = line.strip_prefix("extern crate lalrpop_util as ") {
-                return prefix_in(shown).unwrap_or(NO_PREFIX);
-            }
-            cursor = cursor.after_line();
-        }
-    }
-    NO_PREFIX
-}
-
-/// Whether a part that is being read has no hole that a line tells, and none so far.
-fn is_blank_part(growing: &Growing<'_>) -> bool
-    ensures { IsTrue result → (length (holes_of growing.now.part) ≡ 0) × (length growing.now.holes.items ≡ 0) }
-{
-    holes(growing.part).is_empty() && growing.holes.is_empty()
+    let Some(prefix) = shown else {
+        return Err(ReadFault::NoForm { line: reader.worst });
+    };
+    let Reader { entries, .. } = reader;
+    Ok(Program {
+        prefix: Piece::new(CowStr::Borrowed(prefix)),
+        entries,
+    })
 }
 
 impl<'t> Reader<'t> {
@@ -125,14 +95,19 @@ impl<'t> Reader<'t> {
     }
 
     /// Notes that a line doesn't fit.
-    fn miss(&mut self, line: usize) {
+    fn miss(&mut self, line: usize)
+        ensures { self.new ≡ record self.old { worst = self.new.worst } }
+    {
         if line > self.worst {
             self.worst = line;
         }
     }
 
     /// Whether nothing is left that counts.
-    fn at_end(&mut self) -> bool {
+    fn at_end(&mut self) -> bool
+        ensures kept { self.new ≡ record self.old { worst = self.new.worst } }
+        ensures none { IsTrue result → settled (left self.old.cursor) ≡ [] }
+    {
         if self.cursor.line().is_none() {
             return true;
         }
@@ -141,13 +116,40 @@ impl<'t> Reader<'t> {
         false
     }
 
+    /// Reads a whole program, after which nothing is left that counts.
+    fn read_whole(&mut self) -> Result<bool, AllocError>
+        ensures { IfOk result (λ b. OnTrue b (WholeRead self.old self.new)) }
+    {
+        if !self.read_part(DEPTH, Part::Program)? {
+            return Ok(false);
+        }
+        Ok(self.at_end())
+    }
+
     /// Reads a part with all below it.
     #[cycle(reading)]
-    fn read_part(&mut self, depth: usize, part: Part) -> Result<bool, AllocError> {
+    fn read_part(&mut self, depth: usize, part: Part) -> Result<bool, AllocError>
+        ensures { IfOk result (λ b. Brings (IsPart part) self.old b self.new) }
+    {
         if depth == 0 {
             return Ok(false);
         }
         let at = self.entries.len();
+        let mut growing = self.open(part)?;
+        if !self.read_steps(depth - 1, at, &mut growing)? {
+            return Ok(false);
+        }
+        if !is_told(&growing) {
+            return Ok(false);
+        }
+        self.finish(at, growing);
+        Ok(true)
+    }
+
+    /// Adds a part of which nothing is read yet.
+    fn open(&mut self, part: Part) -> Result<Growing<'t>, AllocError>
+        ensures { IfOk result (λ growing. Opened part self.old self.new growing) }
+    {
         self.entries.push(Entry {
             part,
             holes: Vec::new(self.alloc),
@@ -155,48 +157,64 @@ impl<'t> Reader<'t> {
             notes: Vec::new(self.alloc),
             below: 0,
         })?;
-        let mut growing = Growing {
+        Ok(Growing {
             part,
             holes: Vec::new(self.alloc),
             numbers: Vec::new(self.alloc),
             tabled: false,
-        };
-        for step in steps(part) {
-            if !self.read_own(at, *step, &mut growing)?
-                || !self.read_below(depth - 1, at, step.0)?
-            {
-                return Ok(false);
-            }
-        }
-        self.finish(at, growing);
-        Ok(true)
+        })
     }
 
     /// Puts in what was not known when a part was added.
-    fn finish(&mut self, at: usize, growing: Growing<'t>) {
+    fn finish(&mut self, at: usize, growing: Growing<'t>)
+        requires { at < length self.old.entries.items }
+        ensures kept { self.new ≡ record self.old { entries = self.new.entries } }
+        ensures filled { FilledAt at growing.entry self.old.entries.items self.new.entries.items }
+    {
         let Growing { holes, numbers, .. } = growing;
-        let count = self.entries.len();
-        if at < count {
-            let entry = &mut self.entries[at];
-            entry.holes = holes;
-            entry.numbers = numbers;
-            entry.below = count - at - 1;
-        }
+        let below = self.entries.len() - at - 1;
+        let entry = &mut self.entries[at];
+        entry.holes = holes;
+        entry.numbers = numbers;
+        entry.below = below;
     }
 
-    /// Reads the parts that a step has.
+    /// Takes the steps of a part that was added last, and what they have below.
     #[cycle(reading)]
-    fn read_below(&mut self, depth: usize, at: usize, step: Step) -> Result<bool, AllocError> {
-        match step {
-            Step::One(class) => self.read_class(depth, at, class),
-            Step::Optional(class) => self.read_optional(depth, class),
-            Step::Many(class) => self.read_many(depth, class),
-            Step::Some(class) => Ok(
-                self.read_class(depth, at, class)? && self.read_many(depth, class)?,
-            ),
-            Step::Pairs(first, second) => self.read_pairs(depth, at, first, second),
-            _ => Ok(true),
+    fn read_steps(
+        &mut self,
+        depth: usize,
+        at: usize,
+        growing: &mut Growing<'t>,
+    ) -> Result<bool, AllocError>
+        requires at { at + 1 ≡ length self.old.entries.items }
+        requires none { growing.old.holes.items ≡ [] }
+        ensures { IfOk result (λ b. StepsBring growing.old.part growing.new self.old b self.new) }
+    {
+        for step in steps(growing.part) {
+            if !self.read_step(depth, at, *step, growing)? {
+                return Ok(false);
+            }
         }
+        Ok(true)
+    }
+
+    /// Takes what a step prints itself, and reads the parts that it has.
+    #[cycle(reading)]
+    fn read_step(
+        &mut self,
+        depth: usize,
+        at: usize,
+        step: Line,
+        growing: &mut Growing<'t>,
+    ) -> Result<bool, AllocError>
+        requires { at < length self.old.entries.items }
+        ensures { IfOk result (λ b. StepBrings at (template.line step.entry) growing.old growing.new self.old b self.new) }
+    {
+        if !self.read_own(at, step, growing)? {
+            return Ok(false);
+        }
+        self.read_below(depth, at, step.0)
     }
 
     /// Takes what a step prints itself.
@@ -205,122 +223,156 @@ impl<'t> Reader<'t> {
         at: usize,
         step: Line,
         growing: &mut Growing<'t>,
-    ) -> Result<bool, AllocError> {
-        let scope = self.scope(growing.part);
+    ) -> Result<bool, AllocError>
+        requires { at < length self.old.entries.items }
+        ensures kept { OnOk result (self.new ≡ record self.old { cursor = self.new.cursor; worst = self.new.worst }) }
+        ensures takes { IfOk result (λ b. OnTrue b (OwnTaken self.old.prefix.now growing.old growing.new (kids at self.old) (template.line step.entry) (left self.old.cursor) (left self.new.cursor))) }
+    {
+        match self.own_taken(at, step, growing)? {
+            Ok(next) => {
+                self.cursor = next;
+                Ok(true)
+            }
+            Err(line) => {
+                self.miss(line);
+                Ok(false)
+            }
+        }
+    }
+
+    /// The place behind what a step prints itself, or the line that doesn't fit.
+    fn own_taken(
+        &self,
+        at: usize,
+        step: Line,
+        growing: &mut Growing<'t>,
+    ) -> Result<Result<Cursor<'t>, usize>, AllocError>
+        requires { at < length self.now.entries.items }
+        ensures { IfOk result (λ r. IfOk r (λ next. OwnTaken self.now.prefix.now growing.old growing.new (kids at self.now) (template.line step.entry) (left self.now.cursor) (left next))) }
+    {
         match step.0 {
             Step::Line(_) => {
-                let next = line_step(scope, step.1, growing, self.cursor)?;
-                Ok(self.goes_on(next))
+                let next = line_step(self.scope(growing.part), step.1, growing, self.cursor)?;
+                Ok(self.or_misfit(next))
             }
             Step::Each(_) => {
+                let scope = self.scope(growing.part);
                 let count = self.kids_of(at);
                 let (place, all) = lines_step(scope, count, step.1, growing, self.cursor)?;
-                self.cursor = place;
                 if !all {
-                    self.miss_here();
+                    return Ok(Err(place.number()));
                 }
-                Ok(all)
+                Ok(Ok(place))
             }
-            Step::Use => self.take_use(growing),
-            Step::Code => self.take_code(growing),
-            Step::Entries => self.take_entries(growing),
-            _ => Ok(true),
+            Step::Use => self.use_taken(growing),
+            Step::Code => self.code_taken(growing),
+            Step::Entries => self.entries_taken(growing),
+            Step::Empty => Ok(Ok(self.cursor)),
+            Step::Note => Ok(Ok(self.cursor)),
+            Step::NoteAlways => Ok(Ok(self.cursor)),
+            Step::One(_) => Ok(Ok(self.cursor)),
+            Step::Optional(_) => Ok(Ok(self.cursor)),
+            Step::Many(_) => Ok(Ok(self.cursor)),
+            Step::Some(_) => Ok(Ok(self.cursor)),
+            Step::Pairs(_, _) => Ok(Ok(self.cursor)),
         }
     }
 
-    /// Goes on behind what was taken; where nothing was, the next line doesn't fit.
-    fn goes_on(&mut self, next: Option<Cursor<'t>>) -> bool {
+    /// A place, or else the next line, which doesn't fit.
+    fn or_misfit(&self, next: Option<Cursor<'t>>) -> Result<Cursor<'t>, usize>
+        ensures { IfOk result (λ place. next.entry ≡ Some place) }
+    {
         match next {
-            Some(place) => {
-                self.cursor = place;
-                true
-            }
-            None => {
-                self.miss_here();
-                false
-            }
+            Some(place) => Ok(place),
+            None => Err(self.cursor.number()),
         }
-    }
-
-    /// Notes that the next line doesn't fit.
-    fn miss_here(&mut self) {
-        let line = self.cursor.number();
-        self.miss(line);
     }
 
     /// How many parts stand directly below a part, so far.
-    fn kids_of(&self, at: usize) -> usize {
-        let mut count = 0usize;
-        let mut i = at.saturating_add(1);
-        for _ in 0..self.entries.len() {
-            if i >= self.entries.len() {
-                break;
-            }
-            count = count.saturating_add(1);
-            i = i.saturating_add(1).saturating_add(self.entries[i].below);
-        }
-        count
+    fn kids_of(&self, at: usize) -> usize
+        requires { at < length self.now.entries.items }
+        ensures { result ≡ kids at self.now }
+    {
+        tree_count(&self.entries.as_slice()[at + 1..])
     }
 
-    /// Takes a use.
-    fn take_use(&mut self, growing: &mut Growing<'t>) -> Result<bool, AllocError> {
+    /// The place behind a use, or the line that doesn't fit.
+    fn use_taken(&self, growing: &mut Growing<'t>) -> Result<Result<Cursor<'t>, usize>, AllocError>
+        ensures { IfOk result (λ r. IfOk r (λ next. (count : ℕ) (pieces : List template.Piece) → OwnTaken self.now.prefix.now growing.old growing.new count (step_of.Use, pieces) (left self.now.cursor) (left next))) }
+    {
         if !is_blank_part(growing) {
-            return Ok(false);
+            return Ok(Err(0));
         }
         match use_step(growing, self.cursor)? {
-            Some(place) => {
-                self.cursor = place;
-                Ok(true)
-            }
+            Some(place) => Ok(Ok(place)),
             None => {
-                let line = cut_line(self.cursor, self.cursor.start().saturating_add(4));
-                self.miss(line);
-                Ok(false)
+                let from = self.cursor.start().saturating_add(4);
+                Ok(Err(cut_line(self.cursor, from)))
             }
         }
     }
 
-    /// Takes user code.
-    fn take_code(&mut self, growing: &mut Growing<'t>) -> Result<bool, AllocError> {
+    /// The place behind user code, or the line that doesn't fit.
+    fn code_taken(&self, growing: &mut Growing<'t>) -> Result<Result<Cursor<'t>, usize>, AllocError>
+        ensures { IfOk result (λ r. IfOk r (λ next. (count : ℕ) (pieces : List template.Piece) → OwnTaken self.now.prefix.now growing.old growing.new count (step_of.Code, pieces) (left self.now.cursor) (left next))) }
+    {
         if !is_blank_part(growing) {
-            return Ok(false);
+            return Ok(Err(0));
         }
         match code_step(growing, self.cursor)? {
-            Some(place) => {
-                self.cursor = place;
-                Ok(true)
-            }
-            None => {
-                let line = cut_line(self.cursor, self.cursor.raw());
-                self.miss(line);
-                Ok(false)
-            }
+            Some(place) => Ok(Ok(place)),
+            None => Ok(Err(cut_line(self.cursor, self.cursor.raw()))),
         }
     }
 
-    /// Takes the entries of a table.
-    fn take_entries(&mut self, growing: &mut Growing<'t>) -> Result<bool, AllocError> {
+    /// The place behind a table's entries, or the line that doesn't fit.
+    fn entries_taken(
+        &self,
+        growing: &mut Growing<'t>,
+    ) -> Result<Result<Cursor<'t>, usize>, AllocError>
+        ensures { IfOk result (λ r. IfOk r (λ next. (count : ℕ) (pieces : List template.Piece) → OwnTaken self.now.prefix.now growing.old growing.new count (step_of.Entries, pieces) (left self.now.cursor) (left next))) }
+    {
         if growing.tabled {
-            return Ok(false);
+            return Ok(Err(0));
         }
-        match take_entries(self.alloc, self.cursor)? {
+        let taken = take_entries(self.alloc, self.cursor)?;
+        match taken {
             TakenTable::Whole(numbers, place) => {
                 growing.numbers = numbers;
                 growing.tabled = true;
-                self.cursor = place;
-                Ok(true)
+                Ok(Ok(place))
             }
-            TakenTable::Broken(place) => {
-                let line = self.cursor.line_from(place);
-                self.miss(line);
-                Ok(false)
-            }
+            TakenTable::Broken(place) => Ok(Err(self.cursor.line_from(place))),
+        }
+    }
+
+    /// Reads the parts that a step has.
+    #[cycle(reading)]
+    fn read_below(&mut self, depth: usize, at: usize, step: Step) -> Result<bool, AllocError>
+        ensures { IfOk result (λ b. Brings (MayHave step) self.old b self.new) }
+    {
+        match step {
+            Step::One(class) => self.read_class(depth, at, class),
+            Step::Optional(class) => self.read_optional(depth, class),
+            Step::Many(class) => self.read_many(depth, class),
+            Step::Some(class) => self.read_some(depth, at, class),
+            Step::Pairs(first, second) => self.read_pairs(depth, at, first, second),
+            Step::Line(_) => Ok(true),
+            Step::Each(_) => Ok(true),
+            Step::Empty => Ok(true),
+            Step::Note => Ok(true),
+            Step::NoteAlways => Ok(true),
+            Step::Use => Ok(true),
+            Step::Code => Ok(true),
+            Step::Entries => Ok(true),
         }
     }
 
     /// Whether the lines in front begin the part.
     #[cycle(looking)]
-    fn begins(&mut self, depth: usize, part: Part) -> Result<bool, AllocError> {
+    fn begins(&mut self, depth: usize, part: Part) -> Result<bool, AllocError>
+        ensures { OnOk result (self.new ≡ record self.old { worst = self.new.worst }) }
+    {
         if depth == 0 {
             return Ok(false);
         }
@@ -354,7 +406,9 @@ impl<'t> Reader<'t> {
     }
 
     /// Whether the next line begins a use.
-    fn begins_use(&mut self) -> bool {
+    fn begins_use(&mut self) -> bool
+        ensures { self.new ≡ record self.old { worst = self.new.worst } }
+    {
         match self.cursor.line() {
             Some(line) if line.starts_with("use ") => true,
             _ => {
@@ -367,7 +421,10 @@ impl<'t> Reader<'t> {
 
     /// The part of a class that the lines in front begin.
     #[cycle(looking)]
-    fn pick(&mut self, depth: usize, class: Class) -> Result<Option<Part>, AllocError> {
+    fn pick(&mut self, depth: usize, class: Class) -> Result<Option<Part>, AllocError>
+        ensures kept { OnOk result (self.new ≡ record self.old { worst = self.new.worst }) }
+        ensures member { IfOk result (λ r. IfSome r (λ part. is_member class part ≡ true)) }
+    {
         for part in members(class) {
             if self.begins(depth, *part)? {
                 return Ok(Some(*part));
@@ -376,17 +433,35 @@ impl<'t> Reader<'t> {
         Ok(None)
     }
 
-    /// Reads one part of a class.
-    #[cycle(reading)]
-    fn read_class(&mut self, depth: usize, at: usize, class: Class) -> Result<bool, AllocError> {
-        if class == Class::ActionBody {
-            return self.read_body(depth, at);
-        }
+    /// The one part of a class, or that which the lines in front begin.
+    fn choose(&mut self, depth: usize, class: Class) -> Result<Option<Part>, AllocError>
+        ensures kept { OnOk result (self.new ≡ record self.old { worst = self.new.worst }) }
+        ensures member { IfOk result (λ r. IfSome r (λ part. is_member class part ≡ true)) }
+    {
         let parts = members(class);
         if parts.len() == 1 {
-            return self.read_part(depth, parts[0]);
+            return Ok(Some(parts[0]));
         }
-        match self.pick(depth, class)? {
+        self.pick(depth, class)
+    }
+
+    /// Reads one part of a class.
+    #[cycle(reading)]
+    fn read_class(&mut self, depth: usize, at: usize, class: Class) -> Result<bool, AllocError>
+        ensures { IfOk result (λ b. Brings (MayHave (step_of.One class)) self.old b self.new) }
+    {
+        match class {
+            Class::ActionBody => self.read_body(depth, at),
+            _ => self.read_member(depth, class),
+        }
+    }
+
+    /// Reads the one part of a class, or that which the lines in front begin.
+    #[cycle(reading)]
+    fn read_member(&mut self, depth: usize, class: Class) -> Result<bool, AllocError>
+        ensures { IfOk result (λ b. Brings (MayHave (step_of.One class)) self.old b self.new) }
+    {
+        match self.choose(depth, class)? {
             Some(part) => self.read_part(depth, part),
             None => Ok(false),
         }
@@ -394,7 +469,9 @@ impl<'t> Reader<'t> {
 
     /// Reads a part of a class, if one is there.
     #[cycle(reading)]
-    fn read_optional(&mut self, depth: usize, class: Class) -> Result<bool, AllocError> {
+    fn read_optional(&mut self, depth: usize, class: Class) -> Result<bool, AllocError>
+        ensures { IfOk result (λ b. Brings (MayHave (step_of.Optional class)) self.old b self.new) }
+    {
         match self.pick(depth, class)? {
             Some(part) => self.read_part(depth, part),
             None => Ok(true),
@@ -403,18 +480,29 @@ impl<'t> Reader<'t> {
 
     /// Reads as many parts of a class as there are.
     #[cycle(reading)]
-    fn read_many(&mut self, depth: usize, class: Class) -> Result<bool, AllocError> {
-        for _ in 0..self.cursor.text().len() {
-            match self.pick(depth, class)? {
-                Some(part) => {
-                    if !self.read_part(depth, part)? {
-                        return Ok(false);
-                    }
-                }
-                None => return Ok(true),
+    fn read_many(&mut self, depth: usize, class: Class) -> Result<bool, AllocError>
+        ensures { IfOk result (λ b. Brings (MayHave (step_of.Many class)) self.old b self.new) }
+    {
+        for _i in 0..self.cursor.text().len() {
+            let Some(part) = self.pick(depth, class)? else {
+                return Ok(true);
+            };
+            if !self.read_part(depth, part)? {
+                return Ok(false);
             }
         }
         Ok(true)
+    }
+
+    /// Reads a part of a class, and as many more as there are.
+    #[cycle(reading)]
+    fn read_some(&mut self, depth: usize, at: usize, class: Class) -> Result<bool, AllocError>
+        ensures { IfOk result (λ b. Brings (MayHave (step_of.Some class)) self.old b self.new) }
+    {
+        if !self.read_class(depth, at, class)? {
+            return Ok(false);
+        }
+        self.read_many(depth, class)
     }
 
     /// Reads as many pairs as there are.
@@ -425,38 +513,76 @@ impl<'t> Reader<'t> {
         at: usize,
         first: Class,
         second: Class,
-    ) -> Result<bool, AllocError> {
-        for _ in 0..self.cursor.text().len() {
-            match self.pick(depth, first)? {
-                Some(part) => {
-                    if !self.read_part(depth, part)? || !self.read_class(depth, at, second)? {
-                        return Ok(false);
-                    }
-                }
-                None => return Ok(true),
+    ) -> Result<bool, AllocError>
+        ensures { IfOk result (λ b. Brings (MayHave (step_of.Pairs first second)) self.old b self.new) }
+    {
+        for _i in 0..self.cursor.text().len() {
+            let Some(part) = self.pick(depth, first)? else {
+                return Ok(true);
+            };
+            if !self.read_pair(depth, at, part, second)? {
+                return Ok(false);
             }
         }
         Ok(true)
     }
 
+    /// Reads a part, and one of a class behind it.
+    #[cycle(reading)]
+    fn read_pair(
+        &mut self,
+        depth: usize,
+        at: usize,
+        part: Part,
+        second: Class,
+    ) -> Result<bool, AllocError>
+        ensures { IfOk result (λ b. Brings (IsPair part second) self.old b self.new) }
+    {
+        if !self.read_part(depth, part)? {
+            return Ok(false);
+        }
+        self.read_class(depth, at, second)
+    }
+
     /// Reads the body of an action: inlined actions where the parameters are theirs, or where there
     /// are none and the lines are those of inlined actions; else user code.
     #[cycle(reading)]
-    fn read_body(&mut self, depth: usize, at: usize) -> Result<bool, AllocError> {
+    fn read_body(&mut self, depth: usize, at: usize) -> Result<bool, AllocError>
+        ensures { IfOk result (λ b. Brings (MayHave (step_of.One class_of.ActionBody)) self.old b self.new) }
+    {
         match self.last_parameter(at) {
             Parameters::User => self.read_part(depth, Part::UserBody),
             Parameters::Inlined => self.read_part(depth, Part::InlineBody),
-            Parameters::None => {
-                let cursor = self.cursor;
-                let count = self.entries.len();
-                if self.read_part(depth, Part::InlineBody)? && self.cursor.line() == Some("}") {
-                    return Ok(true);
-                }
-                self.cursor = cursor;
-                self.entries.truncate(count);
-                self.read_part(depth, Part::UserBody)
-            }
+            Parameters::None => self.read_either(depth),
         }
+    }
+
+    /// Reads the lines of inlined actions, or else user code.
+    #[cycle(reading)]
+    fn read_either(&mut self, depth: usize) -> Result<bool, AllocError>
+        ensures { IfOk result (λ b. Brings (MayHave (step_of.One class_of.ActionBody)) self.old b self.new) }
+    {
+        if self.read_inlined(depth)? {
+            return Ok(true);
+        }
+        self.read_part(depth, Part::UserBody)
+    }
+
+    /// Reads the lines of inlined actions, if they are there up to the `}` behind them; else the
+    /// reader is where it was.
+    #[cycle(reading)]
+    fn read_inlined(&mut self, depth: usize) -> Result<bool, AllocError>
+        ensures { IfOk result (λ b. Reread (IsPart part_of.InlineBody) self.old b self.new) }
+    {
+        let cursor = self.cursor;
+        let count = self.entries.len();
+        let all = self.read_part(depth, Part::InlineBody)?;
+        if all && self.cursor.line() == Some("}") {
+            return Ok(true);
+        }
+        self.cursor = cursor;
+        self.entries.truncate(count);
+        Ok(false)
     }
 
     /// Whose parameters the header of an action ends with.

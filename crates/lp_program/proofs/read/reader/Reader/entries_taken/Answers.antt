@@ -1,0 +1,12 @@
+use Rattle.std.proofs.Common.{Some, refl, ap, sym, ◌∙◌, rules}
+use Rattle.lp_spelling.specs.Cursors.{left}
+use Rattle.lp_program.proofs.Growing.{grows_table}
+use Rattle.lp_program.proofs.read.reader.Reader.entries_taken.Goals as goal
+
+pub returns-in-Whole : goal.returns-in-Whole
+returns-in-Whole c = λ count pieces.
+    let taken = rw c.in-Whole.is at c.in_ok-taken.ensures in
+    record {
+      grows = grows_table c.args.self.now.prefix.now c.args.growing.now _ refl refl refl (search rules);
+      takes = λ content m. taken.1 ∙ ap (λ n. Some (n, left c.in-Whole.place)) (sym (m.numbers refl));
+    }

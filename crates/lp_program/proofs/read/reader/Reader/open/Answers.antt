@@ -1,0 +1,16 @@
+use Rattle.std.proofs.Common.{refl}
+use Rattle.lp_tree.specs.declared.tree.Entry.{Entry}
+use Rattle.lp_program.proofs.read.reader.Reader.open.Goals as goal
+
+pub returns : goal.returns
+returns c =
+    let first : Entry = record { part = c.args.part; holes = c.new.result; numbers = c.new-2.result; notes = c.new-3.result; below = 0 } in
+    record {
+      prefix_is = refl;
+      cursor_is = refl;
+      first = first;
+      first_is = refl;
+      entries_are = c.in_ok-push.ensures.items;
+      part_is = refl;
+      none = c.new-4.ensures.items;
+    }
