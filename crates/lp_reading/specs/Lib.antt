@@ -10,3 +10,4 @@ pub mod ExternView
 pub mod Grammars
 pub mod Tops
 pub mod Prefixes
+pub mod Bytes

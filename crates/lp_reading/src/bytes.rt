@@ -1,5 +1,8 @@
 //! From bytes to a plain grammar.
 
+ghost use Rattle.std.specs.Prelude.{IfOk, IfErr};
+ghost use Rattle.lp_reading.specs.Bytes.{IsBytesFault, IsPlainOf};
+
 use crate::top::parse_grammar;
 use lp_syntax::PlainGrammar;
 use lp_types::{PlainError, place_of};
@@ -15,7 +18,10 @@ pub enum BytesFault {
 }
 
 /// The plain grammar that bytes spell.
-pub fn plain_of(alloc: Global, bytes: &[u8]) -> Result<PlainGrammar, BytesFault> {
+pub fn plain_of(alloc: Global, bytes: &[u8]) -> Result<PlainGrammar, BytesFault>
+    ensures spelled { IfOk result (IsPlainOf bytes.now) }
+    ensures fault { IfErr result (IsBytesFault bytes.now) }
+{
     match str::from_utf8(bytes) {
         Err(error) => Err(BytesFault::Grammar {
             place: error.valid_up_to(),
