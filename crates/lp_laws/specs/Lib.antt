@@ -1,0 +1,5 @@
+pub mod LineTexts
+pub mod LineTests
+pub mod TemplateTests
+pub mod WellFormed
+pub mod AsRead

@@ -1,0 +1,2 @@
+//! Laws between the printing and the reading of programs.
+#![tactic(auto)]
