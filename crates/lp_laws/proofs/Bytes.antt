@@ -1,17 +1,13 @@
 -- The bytes of lines: each is its text with blanks in front, up to its line feed.
-use Rattle.std.proofs.Common.{◌≡◌, ℕ, ◌+◌, ◌-◌, ◌==◌, ◌<◌, ◌≤◌, zero, suc, Bool, true, false, cond, if◌then◌else◌, List, [], ◌∷◌, ◌++◌, length, map, replicate, All, refl, sym, ap, ◌∙◌, subst, arith, inl, inr, append_assoc, append-nil}
+use Rattle.std.proofs.Common.{◌≡◌, ℕ, ◌+◌, ◌==◌, suc, Bool, true, false, if◌then◌else◌, List, [], ◌∷◌, ◌++◌, length, replicate, All, refl, sym, ap, ◌∙◌, arith, inl, inr, append_assoc}
 use Rattle.std.proofs.lemmas.Bool.{cases_Bool, cond-true, cond-false, eqb-true}
 use Rattle.std.proofs.lemmas.List.{replicate-append-replicate}
 use Rattle.lp_spelling.specs.Counting.{settled}
-use Rattle.lp_laws.specs.LineTexts.{Counts, IsSkipped}
-use Rattle.lp_write.specs.Lines.{Line, lowered, raised, blanks, indented, indent_after, indent_after_all, line_bytes, lines_bytes}
+use Rattle.lp_laws.specs.LineTexts.{Counts, IsSkipped, text_in}
+use Rattle.lp_write.specs.Lines.{Line, lowered, blanks, indented, indent_after, indent_after_all, line_bytes, lines_bytes}
 use Rattle.lp_write.specs.Lines.Line.{line, verbatim}
-use Rattle.lp_laws.proofs.Lining.{laid, settled_over, settled_line}
-
--- the text of a line
-abbrev pub text_in : Line → List ℕ
-text_in (line text) = text
-text_in (verbatim text) = text
+use Rattle.lp_program.specs.Reads.{TakesLine}
+use Rattle.lp_laws.proofs.Lining.{laid, settled_over, takes_laid}
 
 -- how many blanks stand in front of an indented text
 abbrev pub blank_count : Bool → ℕ → ℕ
@@ -37,13 +33,13 @@ empty_nil (b ∷ t) h = absurd (omega (arith, eqb-true (length (b ∷ t)) 0 h))
 pub any_laid : (w : Bool) (i : ℕ) (l : Line) (rest : List ℕ) → Laid w i l rest
 any_laid w i (line text) rest = elim (cases_Bool (length text == 0)) [
   | inl e ↦ record {
-      count = 0;
-      is = ap (λ x. x ++ rest) (cond-true (length text == 0) _ _ e) ∙ ap (λ x. x ++ 10 ∷ rest) (sym (empty_nil text e));
-    }
+    count = 0;
+    is = ap (λ x. x ++ rest) (cond-true (length text == 0) _ _ e) ∙ ap (λ x. x ++ 10 ∷ rest) (sym (empty_nil text e));
+  }
   | inr s ↦ record {
-      count = blank_count w (lowered i text);
-      is = ap (λ x. x ++ rest) (cond-false (length text == 0) _ _ s) ∙ indented_laid w (lowered i text) text rest;
-    }
+    count = blank_count w (lowered i text);
+    is = ap (λ x. x ++ rest) (cond-false (length text == 0) _ _ s) ∙ indented_laid w (lowered i text) text rest;
+  }
 ]
 any_laid w i (verbatim text) rest = record { count = blank_count w i; is = indented_laid w i text rest }
 
@@ -75,3 +71,12 @@ skipped_lines w i (l ∷ ls) tail h =
     let rest : List ℕ = lines_bytes w (indent_after i l) ls ++ tail in
     let at = any_laid w i l rest in
     ap settled (bytes-first w i l ls tail ∙ at.is) ∙ settled_over at.count (text_in l) rest (h 0 l (omega arith)) ∙ skipped_lines w (indent_after i l) ls tail (λ k d lt. h (suc k) d (omega arith))
+
+-- a line that counts is taken, and one that doesn't is passed over
+pub line_back : (w : Bool) (i : ℕ) (l : Line) (rest : List ℕ) → Counts (text_in l) → TakesLine (text_in l) (line_bytes w i l ++ rest) rest
+line_back w i l rest c =
+    let at = any_laid w i l rest in
+    takes_laid (line_bytes w i l ++ rest) at.count (text_in l) rest c (ap settled at.is)
+
+pub line_over : (w : Bool) (i : ℕ) (l : Line) (rest : List ℕ) → IsSkipped (text_in l) → settled (line_bytes w i l ++ rest) ≡ settled rest
+line_over w i l rest s = let at = any_laid w i l rest in ap settled at.is ∙ settled_over at.count (text_in l) rest s

@@ -1,22 +1,21 @@
 -- Reading the entries of a table, piece by piece.
-use Rattle.std.proofs.Common.{◌≡◌, ℕ, ℤ, ◌+◌, ◌==◌, ◌<◌, ◌≤◌, zero, suc, Bool, true, false, cond, ◌&&◌, ◌||◌, List, [], ◌∷◌, ◌++◌, length, get_or, take, drop, replicate, codes, Option, Some, None, refl, sym, ap, ◌∙◌, subst, arith, eqb, ltb, inl, inr, ◌⊎◌, ⊎_elim, append_assoc, append-nil, length-append}
+use Rattle.std.proofs.Common.{◌≡◌, ℕ, ℤ, ◌+◌, ◌==◌, ◌<◌, ◌≤◌, zero, suc, Bool, true, false, List, [], ◌∷◌, ◌++◌, length, drop, replicate, codes, Option, Some, refl, sym, ap, ◌∙◌, subst, arith, eqb, inl, inr, ◌⊎◌, ⊎_elim, append_assoc, append-nil, length-append}
 use Rattle.std.specs.Fmt.{signed_decimal}
-use Rattle.std.specs.List.{starts_with, join_by, flat_map}
-use Rattle.std.specs.Str.{chars, continuation_len, chars_after}
+use Rattle.std.specs.Str.{chars}
 use Rattle.std.specs.Char.{is_whitespace, len_utf8}
 use Rattle.std.proofs.lemmas.Bool.{and_left, or_cases, cond-true, cond-false, eqb-true, ne_eqb, not-true, leb-true, and_parts}
 use Rattle.lp_texts.specs.OneLine.{begins}
-use Rattle.lp_spelling.specs.Counting.{line_len, is_skipped}
+use Rattle.lp_spelling.specs.Counting.{is_skipped}
 use Rattle.lp_spelling.specs.HoleEnds.{is_digit}
 use Rattle.lp_spelling.specs.LineReading.{◌>>=◌}
 use Rattle.lp_spelling.specs.TableReading.{blank_of, blank_len, char_blank, Front, entry_front, front_of, Table, with_number, goes_on_after, entries_within, entries}
 use Rattle.lp_spelling.specs.TableReading.Front.{feed, skip, ends, found_entry, wrong}
 use Rattle.lp_spelling.proofs.Reading.{starts_ok}
 use Rattle.lp_spelling.proofs.Tables.{front_entry, front_blank, front_comment}
-use Rattle.lp_laws.specs.LineTexts.{is_on_line, IsLineText, IsSkipped}
+use Rattle.lp_laws.specs.LineTexts.{is_on_line}
 use Rattle.lp_laws.specs.LineTests.{is_good}
-use Rattle.lp_laws.proofs.Lining.{laid, line_left, line_ends}
-use Rattle.lp_laws.proofs.Fronts.{Solid, good_solid, digit_good, ascii_begins}
+use Rattle.lp_laws.proofs.Lining.{laid, line_left}
+use Rattle.lp_laws.proofs.Fronts.{good_solid, digit_good}
 use Rattle.lp_laws.proofs.Numbers.{IsSmall, entry_there, opens}
 
 -- with steps enough this is read, where nothing or something stands before on the line

@@ -1,13 +1,12 @@
 -- The first of some trees, and those behind them.
-use Rattle.std.proofs.Common.{◌≡◌, ℕ, ◌+◌, ◌==◌, ◌<◌, ◌≤◌, zero, suc, Bool, true, false, cond, if◌then◌else◌, min, List, [], ◌∷◌, ◌++◌, length, take, drop, refl, sym, ap, ◌∙◌, subst, arith, eqb, inl, inr}
-use Rattle.std.specs.List.{prefix_len, list_all, flat_map}
+use Rattle.std.proofs.Common.{◌≡◌, ℕ, ◌+◌, ◌==◌, ◌≤◌, zero, suc, Bool, true, false, cond, if◌then◌else◌, min, List, [], ◌∷◌, length, take, drop, refl, ap, arith, inl, inr}
+use Rattle.std.specs.List.{prefix_len, list_all}
 use Rattle.std.proofs.lemmas.Bool.{cases_Bool, cond-true, cond-false, eqb-true}
 use Rattle.lp_form.specs.Templates.{steps_of}
-use Rattle.lp_form.specs.Templates as template
 use Rattle.lp_form.specs.declared.part.Part.{Part}
 use Rattle.lp_form.specs.declared.template.Step.{Step}
 use Rattle.lp_write.specs.declared.rust.Options.{Options}
-use Rattle.lp_program.specs.Trees.{Content, Forest, tree_count}
+use Rattle.lp_program.specs.Trees.{Forest, tree_count}
 use Rattle.lp_program.specs.Trees.Forest.{bare, tree}
 use Rattle.lp_program.specs.Printed.{takes, takes_one, Printed, taken, step_lines, printed}
 use Rattle.lp_program.specs.Reads.{graft, parts_in}
@@ -47,7 +46,7 @@ pub printed_front : (options : Options) (prefix : List ℕ) (n : ℕ) (f : Fores
 unfolding printed
 printed_front options prefix zero f = refl
 printed_front options prefix (suc n) bare = refl
-printed_front options prefix (suc n) (tree c below after) = 
+printed_front options prefix (suc n) (tree c below after) =
     ap (λ (x : List Printed). (c.part, step_lines options prefix c (tree_count below) (steps_of c.part) (printed options prefix below)) ∷ x) (printed_front options prefix n after)
 
 pub printed_behind : (options : Options) (prefix : List ℕ) (n : ℕ) (f : Forest) → drop n (printed options prefix f) ≡ printed options prefix (behind n f)
@@ -86,7 +85,7 @@ pub taken_belong : (s : Step) (parts : List Part) → list_all (takes s) (take (
 taken_belong s parts = prefix_passes (takes s) (taken_in s parts) parts (taken_le s parts)
 
 pub none_taken : (s : Step) (parts : List Part) → ((p : Part) → takes s p ≡ false) → taken_in s parts ≡ 0
-none_taken s [] h = elim (cases_Bool (takes_one s)) [ | inl y ↦ cond-true (takes_one s) _ _ y | inr n ↦ cond-false (takes_one s) _ _ n ]
+none_taken s [] h = elim (cases_Bool (takes_one s)) [ inl y ↦ cond-true (takes_one s) _ _ y | inr n ↦ cond-false (takes_one s) _ _ n ]
 none_taken s (p ∷ parts) h =
     let none : prefix_len (takes s) (p ∷ parts) ≡ 0 = cond-false (takes s p) _ _ (h p) in
     let le = taken_le s (p ∷ parts) in

@@ -4,19 +4,16 @@ use Rattle.std.proofs.Math.Dec.{leb}
 use Rattle.std.specs.List.{list_all, starts_with, ends_with}
 use Rattle.std.specs.Char.{is_whitespace}
 use Rattle.std.specs.Str.{IsUtf8, is_utf8, chars, continuation_len, chars_after, lead_bits}
-use Rattle.std.proofs.lemmas.Bool.{and_parts, and_from, and_left, and_right, or_cases, or_left, or_from, cases_Bool, cond-true, cond-false, eqb-true, eqb-false, eq-eqb, ne_eqb, leb-true, ltb-true, lt-ltb, ltb-false, le-ltb, not-true, not_from_false, both_ways, false_from_ne_true, cases_lt, cases_eq}
+use Rattle.std.proofs.lemmas.Bool.{and_parts, and_from, and_left, and_right, or_cases, or_from, cond-true, eqb-true, eqb-false, ne_eqb, leb-true, ltb-true, lt-ltb, le-ltb, not-true, not_from_false, both_ways, false_from_ne_true, cases_lt, cases_eq}
 use Rattle.std.proofs.lemmas.Str.{chars-append, chars-nil, IsUtf8-from_is_utf8}
-use Rattle.unicode_ident.specs.Ident.{is_xid_start}
-use Rattle.unicode_ident.proofs.IdentLemmas.{is_xid_start-ascii}
 use Rattle.unicode_ident.proofs.Computing.{unicode_ident}
-use Rattle.lp_tok.specs.Scans.{starts_word, continues_word}
-use Rattle.lp_texts.specs.Identifiers.{is_identifier}
+use Rattle.lp_tok.specs.Scans.{starts_word}
 use Rattle.lp_texts.specs.Brackets.Leads.{leads_none}
-use Rattle.lp_texts.specs.OneLine.{IsOneLine, IsWrong, begins, begins_comment, is_wrong}
+use Rattle.lp_texts.specs.OneLine.{IsOneLine, begins, is_wrong}
 use Rattle.lp_texts.specs.OneLine.IsWrong.{blank, outside}
 use Rattle.lp_spelling.specs.Counting.{is_skipped}
 use Rattle.lp_spelling.specs.HoleEnds.{is_digit, is_word}
-use Rattle.lp_spelling.specs.Fillings.{is_escape, is_name, is_argument, is_attribute, is_bare, is_visibility}
+use Rattle.lp_spelling.specs.Fillings.{is_escape}
 use Rattle.lp_spelling.proofs.Reading.{starts_ok}
 use Rattle.lp_laws.specs.LineTests.{is_good}
 
@@ -116,11 +113,11 @@ between_good : (b : ℕ) → 48 ≤ b → b < 128 → is_good b ≡ true
 between_good b lo hi =
     let ne = λ (n : ℕ) (k : (b ≡ n) → ⊥). ne_eqb b n k in
     let white : is_whitespace b ≡ false =
-        or_from _ _ (or_from _ _ (or_from _ _ (or_from _ _ (or_from _ _ (or_from _ _ (or_from _ _ (or_from _ _ (or_from _ _ (or_from _ _
-        (and_right (ltb 8 b) (ltb b 14) (le-ltb b 14 (omega arith)))
-        (ne 32 (λ e. omega (arith, e)))) (ne 133 (λ e. omega (arith, e)))) (ne 160 (λ e. omega (arith, e)))) (ne 5760 (λ e. omega (arith, e))))
-        (and_left (ltb 8191 b) (ltb b 8203) (le-ltb 8191 b (omega arith))))
-        (ne 8232 (λ e. omega (arith, e)))) (ne 8233 (λ e. omega (arith, e)))) (ne 8239 (λ e. omega (arith, e)))) (ne 8287 (λ e. omega (arith, e)))) (ne 12288 (λ e. omega (arith, e))) in
+    or_from _ _ (or_from _ _ (or_from _ _ (or_from _ _ (or_from _ _ (or_from _ _ (or_from _ _ (or_from _ _ (or_from _ _ (or_from _ _
+    (and_right (ltb 8 b) (ltb b 14) (le-ltb b 14 (omega arith)))
+    (ne 32 (λ e. omega (arith, e)))) (ne 133 (λ e. omega (arith, e)))) (ne 160 (λ e. omega (arith, e)))) (ne 5760 (λ e. omega (arith, e))))
+    (and_left (ltb 8191 b) (ltb b 8203) (le-ltb 8191 b (omega arith))))
+    (ne 8232 (λ e. omega (arith, e)))) (ne 8233 (λ e. omega (arith, e)))) (ne 8239 (λ e. omega (arith, e)))) (ne 8287 (λ e. omega (arith, e)))) (ne 12288 (λ e. omega (arith, e))) in
     and_from (ltb b 128) _ (lt-ltb b 128 hi) (and_from _ _ (not_from_false (is_whitespace b) white) (not_from_false (b == 47) (ne 47 (λ e. omega (arith, e)))))
 
 pub digit_good : (b : ℕ) → is_digit b ≡ true → is_good b ≡ true
@@ -160,11 +157,11 @@ at_point c n e h = ap starts_word e ∙ h
 
 first_blanks : (c : ℕ) → 8 < c → c < 14 → starts_word c ≡ false
 unfolding unicode_ident
-first_blanks c lo hi = elim (cases_eq c 9) [ | inl e ↦ at_point c 9 e refl | inr n9 ↦ elim (cases_eq c 10) [ | inl e ↦ at_point c 10 e refl | inr n10 ↦ elim (cases_eq c 11) [ | inl e ↦ at_point c 11 e refl | inr n11 ↦ elim (cases_eq c 12) [ | inl e ↦ at_point c 12 e refl | inr n12 ↦ elim (cases_eq c 13) [ | inl e ↦ at_point c 13 e refl | inr n13 ↦ absurd (omega arith) ] ] ] ] ]
+first_blanks c lo hi = elim (cases_eq c 9) [ inl e ↦ at_point c 9 e refl | inr n9 ↦ elim (cases_eq c 10) [ inl e ↦ at_point c 10 e refl | inr n10 ↦ elim (cases_eq c 11) [ inl e ↦ at_point c 11 e refl | inr n11 ↦ elim (cases_eq c 12) [ inl e ↦ at_point c 12 e refl | inr n12 ↦ elim (cases_eq c 13) [ inl e ↦ at_point c 13 e refl | inr n13 ↦ absurd (omega arith) ] ] ] ] ]
 
 wide_blanks : (c : ℕ) → 8191 < c → c < 8203 → starts_word c ≡ false
 unfolding unicode_ident
-wide_blanks c lo hi = elim (cases_eq c 8192) [ | inl e ↦ at_point c 8192 e refl | inr n8192 ↦ elim (cases_eq c 8193) [ | inl e ↦ at_point c 8193 e refl | inr n8193 ↦ elim (cases_eq c 8194) [ | inl e ↦ at_point c 8194 e refl | inr n8194 ↦ elim (cases_eq c 8195) [ | inl e ↦ at_point c 8195 e refl | inr n8195 ↦ elim (cases_eq c 8196) [ | inl e ↦ at_point c 8196 e refl | inr n8196 ↦ elim (cases_eq c 8197) [ | inl e ↦ at_point c 8197 e refl | inr n8197 ↦ elim (cases_eq c 8198) [ | inl e ↦ at_point c 8198 e refl | inr n8198 ↦ elim (cases_eq c 8199) [ | inl e ↦ at_point c 8199 e refl | inr n8199 ↦ elim (cases_eq c 8200) [ | inl e ↦ at_point c 8200 e refl | inr n8200 ↦ elim (cases_eq c 8201) [ | inl e ↦ at_point c 8201 e refl | inr n8201 ↦ elim (cases_eq c 8202) [ | inl e ↦ at_point c 8202 e refl | inr n8202 ↦ absurd (omega arith) ] ] ] ] ] ] ] ] ] ] ]
+wide_blanks c lo hi = elim (cases_eq c 8192) [ inl e ↦ at_point c 8192 e refl | inr n8192 ↦ elim (cases_eq c 8193) [ inl e ↦ at_point c 8193 e refl | inr n8193 ↦ elim (cases_eq c 8194) [ inl e ↦ at_point c 8194 e refl | inr n8194 ↦ elim (cases_eq c 8195) [ inl e ↦ at_point c 8195 e refl | inr n8195 ↦ elim (cases_eq c 8196) [ inl e ↦ at_point c 8196 e refl | inr n8196 ↦ elim (cases_eq c 8197) [ inl e ↦ at_point c 8197 e refl | inr n8197 ↦ elim (cases_eq c 8198) [ inl e ↦ at_point c 8198 e refl | inr n8198 ↦ elim (cases_eq c 8199) [ inl e ↦ at_point c 8199 e refl | inr n8199 ↦ elim (cases_eq c 8200) [ inl e ↦ at_point c 8200 e refl | inr n8200 ↦ elim (cases_eq c 8201) [ inl e ↦ at_point c 8201 e refl | inr n8201 ↦ elim (cases_eq c 8202) [ inl e ↦ at_point c 8202 e refl | inr n8202 ↦ absurd (omega arith) ] ] ] ] ] ] ] ] ] ] ]
 
 white_starts : (c : ℕ) → is_whitespace c ≡ true → starts_word c ≡ false
 unfolding unicode_ident

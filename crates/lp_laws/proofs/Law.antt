@@ -2,39 +2,43 @@
 use Rattle.std.proofs.Common.{◌≡◌, ℕ, ◌+◌, ◌-◌, ◌==◌, ◌<◌, ◌≤◌, zero, suc, Bool, true, false, not, cond, ◌&&◌, ◌||◌, if◌then◌else◌, List, [], ◌∷◌, ◌++◌, length, get_or, take, drop, replicate, codes, All, refl, sym, ap, ◌∙◌, subst, arith, eqb, inl, inr, ⊎_elim, append_assoc, append-nil, length-append}
 use Rattle.std.specs.List.{list_all, list_any, ends_with}
 use Rattle.std.specs.Str.{IsUtf8, chars, bytes_eq}
-use Rattle.std.proofs.lemmas.Bool.{and_parts, or_cases, or_left, or_right, cases_Bool, cond-true, cond-false, eqb-true, ltb-true, not-true, both_ways}
+use Rattle.std.proofs.lemmas.Bool.{and_parts, cases_Bool, cond-true, cond-false, ltb-true, both_ways}
 use Rattle.std.proofs.lemmas.List.{take_at, drop_at}
 use Rattle.std.proofs.lemmas.List.Elements.{All-head}
 use Rattle.std.proofs.lemmas.Str.{chars-append}
-use Rattle.std.proofs.lemmas.Slice.Eq.{bytes_eq-Decides}
 use Rattle.lp_form.specs.Templates.{steps_of, holes_of}
 use Rattle.lp_form.specs.Templates as template
-use Rattle.lp_form.specs.declared.part.Part.{Part}
 use Rattle.lp_form.specs.declared.part.Part.TheVariants as part
 use Rattle.lp_form.specs.declared.template.Step.{Step}
 use Rattle.lp_form.specs.declared.template.Step.TheVariants as step
-use Rattle.lp_tok.specs.Cut.{StopsAt, Splits}
+use Rattle.lp_tok.specs.Cut.{StopsAt}
 use Rattle.lp_tok.specs.Cut.Splits.{splits_none}
-use Rattle.lp_write.specs.Lines.{Line, blanks, lines_bytes}
+use Rattle.lp_write.specs.Lines.{lines_bytes}
 use Rattle.lp_write.specs.Lines.Line.{verbatim}
 use Rattle.lp_write.specs.declared.rust.Options.{Options}
 use Rattle.lp_spelling.specs.Counting.{settled}
 use Rattle.lp_program.specs.CodeReading.{IsCode, without_feed}
-use Rattle.lp_program.specs.OwnLines.{hole, code_lines, own_lines}
-use Rattle.lp_program.specs.Printed.{all_lines, step_lines, printed}
-use Rattle.lp_program.specs.Reads.{TakesOwn, may_have, parts_in, hole_count, KindsFill, Reads, trees, steps}
+use Rattle.lp_program.specs.OwnLines.{hole, code_lines}
+use Rattle.lp_program.specs.Printed.{step_lines, printed}
+use Rattle.lp_program.specs.Reads.{parts_in, hole_count, KindsFill, Reads, trees, steps, is_prefix, IsProgram}
 use Rattle.lp_program.specs.Reads.Reads.{no_tree, no_step, one_step}
-use Rattle.lp_program.specs.Trees.{Content, Forest, tree_count}
+use Rattle.lp_program.specs.Trees.{Content, Forest, tree_count, whole}
 use Rattle.lp_program.specs.Trees.Forest.{bare, tree}
-use Rattle.lp_laws.specs.TemplateTests.{is_code, has_code, is_code_only, are_sound, is_sound}
-use Rattle.lp_laws.specs.WellFormed.{HolesFill, IsCodeText, StepFits, IsWellPart, IsWell, is_shared}
+use Rattle.lp_tree.specs.declared.tree.Entry.{Entry}
+use Rattle.lp_texts.specs.Identifiers.{is_identifier, is_word}
+use Rattle.lp_repr.specs.Names.{same_text}
+use Rattle.lp_spelling.proofs.Counting.{settled_none}
+use Rattle.lp_laws.specs.TemplateTests.{is_code, has_code, is_code_only, are_sound}
+use Rattle.lp_laws.specs.WellFormed.{IsCodeText, StepFits, IsWellPart, IsWell, is_shared}
 use Rattle.lp_laws.specs.AsRead.{code_read, content_read, forest_read}
-use Rattle.lp_laws.proofs.Sound.{IsPrefix}
+use Rattle.lp_laws.specs.Laws.{text_of, CompactReadsBack}
+use Rattle.lp_laws.proofs.Fronts.{chars_some}
+use Rattle.lp_laws.proofs.Sound.{IsPrefix, word_before}
 use Rattle.lp_laws.proofs.Templates.{templates_sound, code_part}
 use Rattle.lp_laws.proofs.Forests.{no_trees}
-use Rattle.lp_laws.proofs.Own.{Ready, ready_same, Texts}
-use Rattle.lp_laws.proofs.Steps.{Closing, no_class_none}
-use Rattle.lp_laws.proofs.Whole.{AtCode, TreeReads, Tree, TreeOk, Each, no_blanks_of, steps_read}
+use Rattle.lp_laws.proofs.Own.{ready_same, Texts}
+use Rattle.lp_laws.proofs.Steps.{Closing, any_code, no_class_none}
+use Rattle.lp_laws.proofs.Whole.{TreeOk, Each, no_blanks_of, part_same, trees_read, steps_read}
 
 -- user code
 feed_off : (text : List ℕ) → without_feed (text ++ 10 ∷ []) ≡ text
@@ -99,7 +103,7 @@ printed_code options i code text tail off f e c = elim (cases_Bool (bytes_eq cod
       let lines_are : code_lines code ≡ verbatim code ∷ [] = cond-false (bytes_eq code (codes "()")) _ _ n in
       let read_as : code_read options.whitespace code ≡ code = cond-false (bytes_eq code (codes "()")) _ _ n ∙ ap (λ x. x ++ code) (no_blanks_of options 4 off) in
       let bytes : lines_bytes options.whitespace i (verbatim code ∷ []) ++ tail ≡ (code ++ 10 ∷ []) ++ tail =
-          ap (λ x. (((x ++ code) ++ 10 ∷ []) ++ []) ++ tail) (no_blanks_of options i off) ∙ ap (λ x. x ++ tail) (append-nil (code ++ 10 ∷ [])) in
+      ap (λ x. (((x ++ code) ++ 10 ∷ []) ++ []) ++ tail) (no_blanks_of options i off) ∙ ap (λ x. x ++ tail) (append-nil (code ++ 10 ∷ [])) in
       subst (λ x. IsCode text x tail) (sym read_as) (some_code code text tail f (e ∙ ap (λ x. lines_bytes options.whitespace i x ++ tail) lines_are ∙ bytes) c)
 ]
 
@@ -113,10 +117,10 @@ code_step options prefix c read total i step.Code pieces f text tail off k e fit
     let none : f ≡ bare = no_trees f (no_class_none ((step.Code, pieces) ∷ []) (parts_in f) refl h) in
     let w : Bool = options.whitespace in
     let lines_are : step_lines options prefix c total ((step.Code, pieces) ∷ []) (printed options prefix f) ≡ code_lines (hole c 0) =
-        ap (λ x. step_lines options prefix c total ((step.Code, pieces) ∷ []) (printed options prefix x)) none
-        ∙ append-nil (code_lines (hole c 0) ++ []) ∙ append-nil (code_lines (hole c 0)) in
+    ap (λ x. step_lines options prefix c total ((step.Code, pieces) ∷ []) (printed options prefix x)) none
+    ∙ append-nil (code_lines (hole c 0) ++ []) ∙ append-nil (code_lines (hole c 0)) in
     let code : IsCode text (hole read 0) tail =
-        subst (λ x. IsCode text x tail) (sym e) (printed_code options i (hole c 0) text tail off fits (is ∙ ap (λ x. lines_bytes w i x ++ tail) lines_are) closing) in
+    subst (λ x. IsCode text x tail) (sym e) (printed_code options i (hole c 0) text tail off fits (is ∙ ap (λ x. lines_bytes w i x ++ tail) lines_are) closing) in
     subst (λ x. Reads prefix (steps read 0 ((step.Code, pieces) ∷ []) (forest_read w x)) text tail) (sym none)
     (one_step read 0 (step.Code, pieces) [] bare bare text tail tail tail refl code (no_tree tail) (no_step read (0 + tree_count bare) tail))
 code_step options prefix c read total i _ pieces f text tail off k e fits h is closing = absurd (both_ways false refl k)
@@ -168,7 +172,7 @@ plain_part_ok options prefix c below off is_prefix p each h =
     let w : Bool = options.whitespace in
     let same : content_read w c ≡ c = cond-false (has_code (steps_of c.part)) _ _ h in
     let sound : are_sound false (holes_of c.part) (steps_of c.part) ≡ true =
-        sym (cond-false (has_code (steps_of c.part)) (is_code_only (steps_of c.part)) (are_sound false (holes_of c.part) (steps_of c.part)) h) ∙ templates_sound c.part in
+    sym (cond-false (has_code (steps_of c.part)) (is_code_only (steps_of c.part)) (are_sound false (holes_of c.part) (steps_of c.part)) h) ∙ templates_sound c.part in
     let texts : Texts prefix c (holes_of c.part) = record { prefix_is = is_prefix; fills = p.fills; notes = p.notes; few = p.few } in
     let total : tree_count below ≡ 0 + tree_count below = omega arith in
     record {
@@ -192,3 +196,45 @@ each_well options prefix (tree c below after) off p w =
       | inr n ↦ plain_part_ok options prefix c below off p w.0 inner n
     ] in
     (ok, each_well options prefix after off p w.2)
+
+-- a prefix
+prefix_is : (prefix : List ℕ) → is_prefix prefix ≡ true → IsUtf8 prefix → IsPrefix prefix
+prefix_is prefix h u =
+    let p = and_parts (Rattle.std.proofs.Common.ltb 0 (length prefix)) (is_identifier (prefix ++ codes "lalrpop_util")) h in
+    let q = and_parts (not (same_text (prefix ++ codes "lalrpop_util") (codes "_"))) (is_word (chars (prefix ++ codes "lalrpop_util"))) p.1 in
+    let whole : is_word (chars prefix ++ chars (codes "lalrpop_util")) ≡ true = ap is_word (sym (chars-append prefix (codes "lalrpop_util") u)) ∙ q.1 in
+    record { utf8 = u; word = word_before (chars prefix) (chars (codes "lalrpop_util")) (chars_some prefix u (ltb-true 0 (length prefix) p.0)) whole }
+
+-- the tree of a program has no user code itself
+program_plain : has_code (steps_of part.Program) ≡ false
+unfolding steps_of
+program_plain = refl
+
+no_code_on_top : (es : List Entry) → IsProgram (whole es) → any_code (parts_in (whole es)) ≡ true → ⊥
+no_code_on_top [] p a = p
+no_code_on_top (e ∷ es) p a =
+    let none : has_code (steps_of e.part) ≡ false = ap (λ x. has_code (steps_of x)) p ∙ program_plain in
+    both_ways (has_code (steps_of e.part) || false) (ap (λ b. b || false) none) a
+
+program_read : (w : Bool) (f : Forest) → IsProgram f → IsProgram (forest_read w f)
+program_read w bare p = p
+program_read w (tree c below after) p = part_same w c ∙ p
+
+-- the law
+pub compact_reads_back : CompactReadsBack
+compact_reads_back options program read off well alike =
+    let prefix : List ℕ = program.prefix in
+    let f : Forest = whole program.entries.items in
+    let w : Bool = options.whitespace in
+    let is : IsPrefix prefix = prefix_is prefix well.prefix_fits well.prefix_utf8 in
+    let text : List ℕ = text_of options program in
+    let r = trees_read options prefix f 0 text [] (each_well options prefix f off is well.trees) (ap settled (sym (append-nil text)))
+    (λ a. absurd (no_code_on_top program.entries.items well.first a)) in
+    let same : forest_read w f ≡ whole read.entries.items = ap (λ b. forest_read b f) off ∙ sym alike.trees in
+    record {
+      rest = r.rest;
+      prefix_fits = ap is_prefix alike.prefix ∙ well.prefix_fits;
+      first = subst IsProgram same (program_read w f well.first);
+      reads = subst (λ p. Reads p (trees (whole read.entries.items)) text r.rest) (sym alike.prefix) (subst (λ x. Reads prefix (trees x) text r.rest) same r.reads);
+      nothing_left = r.same ∙ settled_none;
+    }

@@ -1,8 +1,7 @@
 -- Lines in front of a text: with any number of blanks in front they are read as they are.
-use Rattle.std.proofs.Common.{◌≡◌, ℕ, ◌+◌, ◌==◌, ◌<◌, ◌≤◌, zero, suc, Bool, true, false, cond, List, [], ◌∷◌, ◌++◌, length, take, drop, replicate, refl, sym, ap, ◌∙◌, subst, arith, append_assoc, length-append, inl, inr}
+use Rattle.std.proofs.Common.{◌≡◌, ℕ, ◌+◌, ◌<◌, zero, suc, true, false, List, [], ◌∷◌, ◌++◌, length, take, drop, replicate, refl, sym, ap, ◌∙◌, arith, append_assoc, length-append}
 use Rattle.std.specs.Char.{is_whitespace}
-use Rattle.std.specs.List.{list_all, prefix_len}
-use Rattle.std.specs.Str.{IsUtf8, chars, chars_after, trim_start, skip_leading_whitespace, encode_utf8_all}
+use Rattle.std.specs.Str.{chars, trim_start, skip_leading_whitespace, encode_utf8_all}
 use Rattle.std.proofs.lemmas.Bool.{and_parts, and_from, cond-true, cond-false}
 use Rattle.std.proofs.lemmas.List.{take_at, drop_at}
 use Rattle.std.proofs.lemmas.Str.{encodes-chars}
@@ -10,7 +9,7 @@ use Rattle.lp_texts.specs.OneLine.{begins}
 use Rattle.lp_spelling.specs.Counting.{is_text, line_len, front_line, behind_line, is_skipped, settled}
 use Rattle.lp_spelling.proofs.Counting.{settled_skips, settled_counts}
 use Rattle.lp_laws.specs.LineTexts.{is_on_line, IsLineText, Counts, IsSkipped}
-use Rattle.lp_program.specs.Reads.{TakesLine, TakesLines}
+use Rattle.lp_program.specs.Reads.{TakesLine}
 
 -- a text with so many blanks in front, up to its line feed
 abbrev pub laid : ℕ → List ℕ → List ℕ → List ℕ

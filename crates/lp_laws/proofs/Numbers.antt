@@ -1,18 +1,18 @@
 -- Numbers of table entries, as they are printed, are read as they are.
-use Rattle.std.proofs.Common.{◌≡◌, ℕ, ℤ, pos, negsuc, neg_ℤ, ◌+◌, ◌^◌, ◌==◌, ◌<◌, ◌≤◌, zero, suc, Bool, true, false, not, cond, ◌&&◌, List, [], ◌∷◌, ◌++◌, length, get_or, take, drop, codes, Option, Some, None, refl, sym, ap, ◌∙◌, subst, arith, eqb, ltb, inl, inr, ◌⊎◌}
+use Rattle.std.proofs.Common.{◌≡◌, ℕ, ℤ, pos, negsuc, neg_ℤ, ◌+◌, ◌^◌, ◌==◌, ◌<◌, ◌≤◌, suc, true, false, not, ◌&&◌, List, [], ◌∷◌, ◌++◌, length, get_or, take, drop, codes, Some, None, refl, ap, ◌∙◌, arith, eqb, ltb, inl, inr, ◌⊎◌}
 use Rattle.std.proofs.Math.Dec.{leb}
 use Rattle.std.specs.List.{list_all, prefix_len, starts_with}
 use Rattle.std.specs.Fmt.{decimal, signed_decimal}
 use Rattle.std.specs.Str.{bytes_eq}
 use Rattle.std.specs.Str.Parse.{AllDigits, digits_value}
-use Rattle.std.proofs.lemmas.Bool.{and_parts, and_from, and_left, and_right, cases_eq, cond-true, cond-false, eqb-true, ne_eqb, eq-eqb, lt-ltb, le-leb, le-ltb, leb-true, not_from_false, false_from_ne_true}
+use Rattle.std.proofs.lemmas.Bool.{and_parts, and_from, and_left, and_right, cases_eq, cond-true, cond-false, ne_eqb, lt-ltb, le-leb, le-ltb, leb-true, not_from_false, false_from_ne_true}
 use Rattle.std.proofs.lemmas.Fmt.{decimal_is_IsNumeral, decimal_digit, first_decimal}
 use Rattle.std.proofs.lemmas.List.{take_at, drop_at}
 use Rattle.std.proofs.lemmas.Slice.Eq.{bytes_eq-Decides}
 use Rattle.std.proofs.lemmas.Str.Parse.{digit_from_value}
 use Rattle.lp_spelling.specs.HoleEnds.{is_digit}
 use Rattle.lp_spelling.specs.Fillings.{is_number, leads_zero}
-use Rattle.lp_spelling.specs.TableReading.{negative_of, positive_of, number_of, sign_len, number_end, entry_in}
+use Rattle.lp_spelling.specs.TableReading.{number_of, sign_len, number_end, entry_in}
 use Rattle.lp_spelling.proofs.Tables.{entry_some}
 
 -- a number of 32 bits
@@ -80,7 +80,7 @@ number_neg n h =
     let f = first_decimal (suc n) (omega arith) w in
     let fits : leb (digits_value 10 (decimal (suc n))) (2 ^ 31) ≡ true = le-leb (digits_value 10 (decimal (suc n))) (2 ^ 31) (omega (arith, v, h)) in
     let some : bytes_eq (decimal (suc n)) (codes "0") ≡ false =
-        false_from_ne_true _ (λ e. let same = ap (λ t. get_or t 0 0) ((bytes_eq-Decides (decimal (suc n)) (codes "0")).0 e) in omega (arith, same, f)) in
+    false_from_ne_true _ (λ e. let same = ap (λ t. get_or t 0 0) ((bytes_eq-Decides (decimal (suc n)) (codes "0")).0 e) in omega (arith, same, f)) in
     cond-true (is_number (decimal (suc n)) && (not (bytes_eq (decimal (suc n)) (codes "0")) && leb (digits_value 10 (decimal (suc n))) (2 ^ 31))) _ None
     (and_from (is_number (decimal (suc n))) _ (decimal_number (suc n) w) (and_from (not (bytes_eq (decimal (suc n)) (codes "0"))) _ (not_from_false _ some) fits))
     ∙ ap (λ k. Some (neg_ℤ (pos k))) v

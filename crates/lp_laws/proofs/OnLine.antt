@@ -1,28 +1,26 @@
 -- What fills a hole has no line feed.
-use Rattle.std.proofs.Common.{◌≡◌, ℕ, ◌+◌, ◌-◌, ◌/◌, ◌%◌, ◌==◌, ◌<◌, ◌≤◌, zero, suc, Bool, true, false, not, cond, ◌&&◌, ◌||◌, if◌then◌else◌, List, [], ◌∷◌, ◌++◌, length, get_or, take, drop, codes, Some, None, IsTrue, refl, sym, ap, ◌∙◌, subst, arith, eqb, ltb, inl, inr, ⊎_elim, take-append-drop}
+use Rattle.std.proofs.Common.{◌≡◌, ℕ, ◌+◌, ◌-◌, ◌/◌, ◌%◌, ◌==◌, ◌≤◌, zero, suc, Bool, true, false, not, ◌||◌, List, [], ◌∷◌, ◌++◌, length, get_or, take, drop, codes, Some, None, IsTrue, refl, sym, ap, ◌∙◌, subst, arith, eqb, ltb, inl, inr, ⊎_elim, take-append-drop}
 use Rattle.std.proofs.Math.Dec.{leb}
 use Rattle.std.specs.List.{list_all, starts_with, ends_with}
 use Rattle.std.specs.Option.{IfSome}
 use Rattle.std.specs.Str.{IsUtf8, is_utf8, chars, encode_utf8_all, bytes_eq}
-use Rattle.std.specs.Char.{encode_utf8}
-use Rattle.std.proofs.lemmas.Bool.{and_parts, and_from, or_cases, or_left, cases_Bool, cond-true, cond-false, cond_both, eqb-true, eqb-false, eq-eqb, ne_eqb, leb-true, ltb-true, lt-ltb, ltb-false, le-ltb, not-true, not_from_false, true≢false, both_ways}
+use Rattle.std.proofs.lemmas.Bool.{and_parts, and_from, or_cases, or_left, cases_Bool, cond-true, cond-false, cond_both, eqb-true, eq-eqb, ne_eqb, leb-true, ltb-true, ltb-false, le-ltb, not-true, not_from_false, both_ways}
 use Rattle.std.proofs.lemmas.List.{drop-drop}
 use Rattle.std.proofs.lemmas.List.Recursion.{and_from_places}
 use Rattle.std.proofs.lemmas.Option.{slice_get-get_or}
 use Rattle.std.proofs.lemmas.Slice.Eq.{bytes_eq-Decides}
 use Rattle.std.proofs.lemmas.Str.{encodes-chars, IsUtf8-from_is_utf8}
-use Rattle.unicode_ident.specs.Ident.{is_xid_start, is_xid_continue}
 use Rattle.unicode_ident.proofs.IdentLemmas.{is_xid_start-ascii, is_xid_continue-ascii}
 use lib.Utf8.{encode}
 use Rattle.lp_form.specs.declared.template.Kind.{Kind}
 use Rattle.lp_form.specs.declared.template.Kind.TheVariants as kind
 use Rattle.lp_tok.specs.Scans.{starts_word, continues_word}
 use Rattle.lp_texts.specs.Identifiers.{is_identifier}
-use Rattle.lp_texts.specs.OneLine.{IsOneLine, IsWrong, ends_line}
+use Rattle.lp_texts.specs.OneLine.{IsOneLine, ends_line}
 use Rattle.lp_texts.specs.OneLine.IsWrong.{line_end}
 use Rattle.lp_spelling.specs.Counting.{is_text}
 use Rattle.lp_spelling.specs.HoleEnds.{first_at, place, is_digit}
-use Rattle.lp_spelling.specs.Fillings.{is_number, holds, is_name, is_own, is_argument, is_range, is_element, joined_within, is_joined, is_many, is_last, is_escape, is_escaped, is_terminal, is_attribute, is_literal, are_parameters, are_several, are_captures, is_look, is_field, is_location, is_bare, is_visibility, has_shape, line_part, without_end, without_front, without_blank, part_before, part_behind, Fits, Fills}
+use Rattle.lp_spelling.specs.Fillings.{is_number, holds, is_name, is_own, is_argument, is_range, is_element, joined_within, is_joined, is_last, is_escape, are_parameters, are_several, are_captures, is_look, is_field, is_location, is_bare, has_shape, line_part, without_end, without_front, without_blank, part_before, part_behind, Fits}
 use Rattle.lp_spelling.proofs.Reading.{starts_ok}
 use Rattle.lp_spelling.proofs.Fitting.{first_passes, number_parts}
 use Rattle.lp_laws.specs.LineTexts.{is_on_line}

@@ -1,5 +1,5 @@
 -- What a step prints itself is taken off the text again.
-use Rattle.std.proofs.Common.{◌≡◌, ℕ, ℤ, ◌+◌, ◌-◌, ◌^◌, ◌==◌, ◌<◌, ◌≤◌, zero, suc, Bool, true, false, not, cond, ◌&&◌, ◌||◌, if◌then◌else◌, List, [], ◌∷◌, ◌++◌, length, map, get_or, take, drop, replicate, codes, All, Some, refl, sym, ap, ◌∙◌, subst, arith, eqb, inl, inr, append_assoc}
+use Rattle.std.proofs.Common.{◌≡◌, ℕ, ◌+◌, ◌^◌, ◌==◌, ◌<◌, zero, suc, Bool, true, false, not, List, [], ◌∷◌, ◌++◌, length, map, get_or, take, drop, replicate, codes, All, refl, sym, ap, ◌∙◌, subst, arith, inl, inr, append_assoc}
 use Rattle.std.specs.List.{flat_map}
 use Rattle.std.specs.Str.{IsUtf8, chars}
 use Rattle.std.proofs.lemmas.Bool.{and_parts, and_from, or_right, cases_Bool, cond-true, cond-false, eqb-true, not_from_false, both_ways}
@@ -10,8 +10,8 @@ use Rattle.lp_form.specs.Templates as template
 use Rattle.lp_form.specs.declared.template.Kind.{Kind}
 use Rattle.lp_form.specs.declared.template.Step.{Step}
 use Rattle.lp_form.specs.declared.template.Step.TheVariants as step
-use Rattle.lp_write.specs.Lines.{Line, line_bytes, lines_bytes, indent_after, indent_after_all}
-use Rattle.lp_write.specs.Lines.Line.{line, verbatim}
+use Rattle.lp_write.specs.Lines.{Line, line_bytes, lines_bytes, indent_after}
+use Rattle.lp_write.specs.Lines.Line.{line}
 use Rattle.lp_write.specs.declared.rust.Options.{Options}
 use Rattle.lp_spelling.specs.Counting.{is_text, line_len, front_line, settled}
 use Rattle.lp_spelling.specs.Lines.{line_of}
@@ -22,14 +22,14 @@ use Rattle.lp_program.specs.OwnLines.{hole, spelled, note_lines, own_lines}
 use Rattle.lp_program.specs.Reads.{TakesLine, TakesLines, TakesOwn}
 use Rattle.lp_program.specs.TableRows.{table_lines}
 use Rattle.lp_program.specs.Trees.{Content, Note}
-use Rattle.lp_laws.specs.LineTexts.{is_on_line, IsLineText, Counts, IsSkipped}
+use Rattle.lp_laws.specs.LineTexts.{is_on_line, Counts, IsSkipped, text_in}
 use Rattle.lp_laws.specs.LineTests.{is_good, is_sound_line}
 use Rattle.lp_laws.specs.TemplateTests.{is_class, exact_after, has_class, ends_next, is_sound_step}
 use Rattle.lp_laws.specs.WellFormed.{HolesFill, IsUseText, IsNote, StepFits}
 use Rattle.lp_laws.proofs.Lining.{laid, settled_line, settled_over, takes_laid}
 use Rattle.lp_laws.proofs.Fronts.{Solid, good_solid, solid_loose, loose_counts}
 use Rattle.lp_laws.proofs.Sound.{IsPrefix, plain_ascii, sound_counts}
-use Rattle.lp_laws.proofs.Bytes.{text_in, any_laid, laid_blanks, bytes-first, skipped_lines}
+use Rattle.lp_laws.proofs.Bytes.{any_laid, laid_blanks, bytes-first, skipped_lines}
 use Rattle.lp_laws.proofs.TableLines.{empty_skipped, table_reads}
 
 -- a text goes on as what was printed: byte by byte, or from its next line that counts on
@@ -194,7 +194,7 @@ own_read options prefix c kinds done total i exact step.Entries pieces others te
     let q = and_parts exact (ends_next others) h in
     let e = b q.1 in
     let there : text ≡ lines_bytes options.whitespace i (table_lines options c.numbers c.notes) ++ (replicate e.blanks 32 ++ 93 ∷ (e.others ++ 10 ∷ e.rest)) =
-        r.is q.0 ∙ ap (λ x. lines_bytes options.whitespace i (table_lines options c.numbers c.notes) ++ x) (e.is ∙ append_assoc (replicate e.blanks 32) (93 ∷ e.others) (10 ∷ e.rest)) in
+    r.is q.0 ∙ ap (λ x. lines_bytes options.whitespace i (table_lines options c.numbers c.notes) ++ x) (e.is ∙ append_assoc (replicate e.blanks 32) (93 ∷ e.others) (10 ∷ e.rest)) in
     record {
       rest = 93 ∷ (e.others ++ 10 ∷ e.rest);
       takes = ap entries there ∙ table_reads options i e.blanks c.numbers c.notes (e.others ++ 10 ∷ e.rest) t.few f t.notes;

@@ -1,14 +1,13 @@
 -- The lines of templates count, whatever fills their holes.
-use Rattle.std.proofs.Common.{◌≡◌, ℕ, ◌+◌, ◌==◌, ◌<◌, ◌≤◌, zero, suc, Bool, true, false, not, cond, ◌&&◌, ◌||◌, if◌then◌else◌, List, [], ◌∷◌, ◌++◌, length, get_or, take, drop, codes, Some, None, refl, sym, ap, ◌∙◌, subst, arith, eqb, ltb, inl, inr, ◌⊎◌, ⊎_elim, length-append}
-use Rattle.std.specs.List.{list_all, starts_with, ends_with}
-use Rattle.std.specs.Option.{IfSome}
+use Rattle.std.proofs.Common.{◌≡◌, ℕ, ◌==◌, ◌<◌, zero, suc, Bool, true, false, not, ◌||◌, List, [], ◌∷◌, ◌++◌, length, get_or, take, drop, codes, refl, sym, ap, ◌∙◌, subst, arith, eqb, ltb, inl, inr, ◌⊎◌, ⊎_elim, length-append}
+use Rattle.std.specs.List.{list_all, starts_with}
 use Rattle.std.specs.Prelude.{slice_index}
 use Rattle.std.specs.Char.{is_whitespace}
 use Rattle.std.specs.Str.{IsUtf8, is_utf8, chars, bytes_eq}
-use Rattle.std.proofs.lemmas.Bool.{and_parts, and_from, or_cases, cases_Bool, cond-true, cond-false, eqb-true, eqb-false, ne_eqb, ltb-true, not-true, both_ways, false_from_ne_true}
+use Rattle.std.proofs.lemmas.Bool.{and_parts, and_from, or_cases, cases_Bool, cond-true, cond-false, eqb-true, ne_eqb, ltb-true, not-true, both_ways}
 use Rattle.std.proofs.lemmas.List.Folds.{list_all-append}
 use Rattle.std.proofs.lemmas.Slice.Eq.{bytes_eq-Decides}
-use Rattle.std.proofs.lemmas.Str.{chars-append, chars-nil, encodes-chars, IsUtf8-nil, IsUtf8-append, IsUtf8-from_ascii, IsUtf8-from_is_utf8}
+use Rattle.std.proofs.lemmas.Str.{chars-nil, IsUtf8-nil, IsUtf8-append, IsUtf8-from_ascii}
 use Rattle.unicode_ident.proofs.IdentLemmas.{is_xid_start-ascii}
 use Rattle.lp_form.specs.Templates.{Piece}
 use Rattle.lp_form.specs.declared.template.Kind.{Kind}
@@ -19,14 +18,14 @@ use Rattle.lp_repr.specs.Names.{same_text}
 use Rattle.lp_tok.specs.Scans.{starts_word, continues_word}
 use Rattle.lp_texts.specs.Identifiers.{is_identifier, is_word}
 use Rattle.lp_texts.specs.OneLine.{begins}
-use Rattle.lp_spelling.specs.Counting.{is_text, is_skipped}
+use Rattle.lp_spelling.specs.Counting.{is_text}
 use Rattle.lp_spelling.specs.HoleEnds.{is_digit}
 use Rattle.lp_spelling.specs.Lines.{slot_text, line_of}
 use Rattle.lp_spelling.specs.LineReading.{kind_of}
-use Rattle.lp_spelling.specs.Fillings.{is_number, holds, is_name, is_range, is_argument, is_element, joined_within, is_joined, is_escape, is_bare, has_shape, line_part, without_front, part_before, Fits, Fills}
+use Rattle.lp_spelling.specs.Fillings.{is_number, holds, is_name, is_range, is_argument, is_element, joined_within, is_joined, is_escape, is_bare, has_shape, line_part, part_before, Fits, Fills}
 use Rattle.lp_spelling.proofs.Reading.{starts_ok}
 use Rattle.lp_spelling.proofs.Fitting.{number_parts}
-use Rattle.lp_laws.specs.LineTexts.{is_on_line, IsLineText, Counts}
+use Rattle.lp_laws.specs.LineTexts.{is_on_line, Counts}
 use Rattle.lp_laws.specs.LineTests.{is_good, is_plain, is_slot_in, is_plain_line, begins_so, next_so, kind_front, slot_front, text_front, is_front, is_sound_line}
 use Rattle.lp_laws.specs.WellFormed.{is_pattern, HolesFill}
 use Rattle.lp_laws.proofs.Lining.{on_line-append}

@@ -1,8 +1,8 @@
 -- Steps by their kind, and what stands behind them.
-use Rattle.std.proofs.Common.{◌≡◌, ℕ, ◌+◌, ◌==◌, ◌<◌, ◌≤◌, zero, suc, Bool, true, false, not, cond, ◌&&◌, ◌||◌, if◌then◌else◌, List, [], ◌∷◌, ◌++◌, length, get_or, take, drop, replicate, codes, refl, sym, ap, ◌∙◌, subst, arith, eqb, inl, inr, ⊎_elim, append_assoc}
+use Rattle.std.proofs.Common.{◌≡◌, ℕ, ◌+◌, ◌==◌, Bool, true, false, List, [], ◌∷◌, ◌++◌, length, take, drop, replicate, codes, refl, sym, ap, ◌∙◌, subst, ⊎_elim, append_assoc}
 use Rattle.std.specs.List.{list_all, list_any}
 use Rattle.std.specs.Str.{bytes_eq}
-use Rattle.std.proofs.lemmas.Bool.{and_parts, or_cases, or_parts, cases_Bool, cond-true, cond-false, eqb-true, both_ways}
+use Rattle.std.proofs.lemmas.Bool.{and_parts, or_cases, or_parts, eqb-true, both_ways}
 use Rattle.std.proofs.lemmas.Slice.Eq.{bytes_eq-Decides}
 use Rattle.lp_form.specs.Templates.{Piece, steps_of}
 use Rattle.lp_form.specs.Templates as template
@@ -13,7 +13,7 @@ use Rattle.lp_form.specs.declared.template.Slot.{Slot}
 use Rattle.lp_form.specs.declared.template.Slot.TheVariants.{Nothing, Prefix, Hole}
 use Rattle.lp_form.specs.declared.template.Step.{Step}
 use Rattle.lp_form.specs.declared.template.Step.TheVariants as step
-use Rattle.lp_write.specs.Lines.{Line, blanks, lowered, lines_bytes, line_bytes, indent_after}
+use Rattle.lp_write.specs.Lines.{Line, blanks, lowered, lines_bytes, indent_after}
 use Rattle.lp_write.specs.Lines.Line.{line}
 use Rattle.lp_write.specs.declared.rust.Options.{Options}
 use Rattle.lp_spelling.specs.Lines.{slot_text, line_of}
@@ -22,7 +22,6 @@ use Rattle.lp_program.specs.Printed.{takes, taken, Printed, all_lines, step_line
 use Rattle.lp_program.specs.Reads.{TakesOwn, may_have}
 use Rattle.lp_program.specs.Trees.{Content}
 use Rattle.lp_laws.specs.LineTexts.{Counts}
-use Rattle.lp_laws.specs.LineTests.{is_sound_line, next_so}
 use Rattle.lp_laws.specs.TemplateTests.{has_code, is_class, has_class, is_one, is_nothing, is_brace, is_step_brace, closes_next, is_step_bracket, ends_next, exact_after, is_sound_class, is_sound_step, are_sound}
 use Rattle.lp_laws.specs.WellFormed.{taken_in, is_shared}
 use Rattle.lp_laws.proofs.Lining.{laid}

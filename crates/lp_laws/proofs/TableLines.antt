@@ -1,19 +1,17 @@
 -- The rows of a table are read as its numbers.
-use Rattle.std.proofs.Common.{◌≡◌, ℕ, ℤ, pos, negsuc, ◌+◌, ◌-◌, ◌^◌, ◌==◌, ◌<◌, ◌≤◌, zero, suc, Bool, true, false, not, cond, ◌&&◌, if◌then◌else◌, List, [], ◌∷◌, ◌++◌, length, map, get_or, take, drop, replicate, codes, All, Option, Some, None, refl, sym, ap, ◌∙◌, subst, arith, eqb, ltb, inl, inr, append_assoc, append-nil, length-append, length-take, take-append-drop, FitsSigned, w32}
+use Rattle.std.proofs.Common.{◌≡◌, ℕ, ℤ, pos, negsuc, ◌+◌, ◌-◌, ◌^◌, ◌==◌, ◌<◌, suc, Bool, true, false, not, ◌&&◌, if◌then◌else◌, List, [], ◌∷◌, ◌++◌, length, map, take, drop, replicate, codes, All, Some, refl, sym, ap, ◌∙◌, subst, arith, inl, inr, append_assoc, append-nil, length-take, take-append-drop, FitsSigned, w32}
 use Rattle.std.specs.Fmt.{decimal, signed_decimal}
 use Rattle.std.specs.List.{join_by, flat_map, list_all}
 use Rattle.std.specs.Str.{chars}
 use Rattle.std.proofs.lemmas.Bool.{and_parts, cases_Bool, cond-true, cond-false, eqb-true}
 use Rattle.std.proofs.lemmas.List.Elements.{All-nil, All-cons, All-take, All-drop}
-use Rattle.std.proofs.lemmas.List.{drop_all, drop_min, nil_from_length}
+use Rattle.std.proofs.lemmas.List.{drop_min, nil_from_length}
 use Rattle.lp_write.specs.Lines.{Line, lines_bytes, line_bytes, indent_after, indent_after_all}
 use Rattle.lp_write.specs.Lines.Line.{line, verbatim}
 use Rattle.lp_write.specs.Rows.{row_text, entry_piece}
 use Rattle.lp_write.specs.declared.rust.Options.{Options}
-use Rattle.lp_spelling.specs.Counting.{is_skipped}
-use Rattle.lp_spelling.specs.HoleEnds.{is_digit}
 use Rattle.lp_spelling.specs.TableReading.{entries}
-use Rattle.lp_laws.specs.LineTexts.{is_on_line, IsLineText, IsSkipped}
+use Rattle.lp_laws.specs.LineTexts.{IsSkipped}
 use Rattle.lp_laws.specs.WellFormed.{IsTrailing, IsNote}
 use Rattle.lp_program.specs.TableRows.{commented, entry_line, entry_lines, row_lines, no_note, last_lines, rows_from, table_lines}
 use Rattle.lp_program.specs.Trees.{Note}
@@ -25,7 +23,7 @@ use Rattle.std.proofs.lemmas.Str.{IsUtf8-append, IsUtf8-from_ascii}
 use Rattle.lp_laws.proofs.OnLine.{digits-on_line}
 use Rattle.lp_laws.proofs.Fronts.{ascii_begins}
 use Rattle.lp_laws.proofs.Sound.{plain_ascii}
-use Rattle.lp_laws.proofs.Bytes.{text_in, any_laid, bytes-split, bytes-first}
+use Rattle.lp_laws.proofs.Bytes.{any_laid, bytes-split, bytes-first}
 use Rattle.lp_laws.proofs.Numbers.{IsSmall, decimal_digits}
 use Rattle.lp_laws.proofs.Entries.{Gives, gives_then, gives_none, gives_one, gives_more, gives_feed, gives_blanks, gives_entries}
 
@@ -104,7 +102,7 @@ entries_give options i es rest h =
           let lines_are : entry_lines options es ≡ map entry_line es ++ line [] ∷ [] = cond-true options.comments _ _ y in
           let j : ℕ = indent_after_all i (map entry_line es) in
           let last : Gives true (lines_bytes w j (line [] ∷ []) ++ rest) [] rest =
-              skipped_give w j ([] ∷ []) rest (All-cons IsSkipped [] [] empty_skipped (All-nil IsSkipped)) in
+          skipped_give w j ([] ∷ []) rest (All-cons IsSkipped [] [] empty_skipped (All-nil IsSkipped)) in
           let first = lines_give w i es (lines_bytes w j (line [] ∷ []) ++ rest) h in
           let both = gives_then true _ (lines_bytes w j (line [] ∷ []) ++ rest) rest (map (λ e. e.0) es) [] first last in
           let numbers : map (λ e. e.0) es ++ [] ≡ map (λ e. e.0) es = append-nil (map (λ e. e.0) es) in
@@ -115,7 +113,7 @@ entries_give options i es rest h =
           let lines_are : entry_lines options es ≡ verbatim (row_text w es) ∷ [] = cond-false options.comments _ _ n in
           let at = any_laid w i (verbatim (row_text w es)) rest in
           let whole : lines_bytes w i (verbatim (row_text w es) ∷ []) ++ rest ≡ replicate at.count 32 ++ (row_text w es ++ 10 ∷ rest) =
-              bytes-first w i (verbatim (row_text w es)) [] rest ∙ at.is ∙ append_assoc (replicate at.count 32) (row_text w es) (10 ∷ rest) in
+          bytes-first w i (verbatim (row_text w es)) [] rest ∙ at.is ∙ append_assoc (replicate at.count 32) (row_text w es) (10 ∷ rest) in
           subst (λ x. Gives true (lines_bytes w i x ++ rest) (map (λ e. e.0) es) rest) (sym lines_are)
           (subst (λ x. Gives true x (map (λ e. e.0) es) rest) (sym whole)
           (gives_blanks at.count true (row_text w es ++ 10 ∷ rest) rest (map (λ e. e.0) es) (row_gives w es rest h)))
@@ -174,9 +172,9 @@ one_row options i state ns note rest s f g =
     let j : ℕ = indent_after_all i (map line fronts) in
     let mid : List ℕ = lines_bytes w j (entry_lines options es) ++ rest in
     let lines_are : row_lines options state ns note ≡ map line fronts ++ entry_lines options es =
-        ap (λ x. line (codes "// State " ++ decimal state) ∷ (x ++ entry_lines options es)) (notes_lines options note) in
+    ap (λ x. line (codes "// State " ++ decimal state) ∷ (x ++ entry_lines options es)) (notes_lines options note) in
     let first : Gives true (lines_bytes w i (map line fronts) ++ mid) [] mid =
-        skipped_give w i fronts mid (All-cons IsSkipped (codes "// State " ++ decimal state) (notes_of options note) (state_skipped state s) (notes_skipped options note g.lines)) in
+    skipped_give w i fronts mid (All-cons IsSkipped (codes "// State " ++ decimal state) (notes_of options note) (state_skipped state s) (notes_skipped options note g.lines)) in
     let last : Gives true mid (map (λ e. e.0) es) rest = entries_give options j es rest (commented_fits ns note.comments f g.comments) in
     let both = gives_then true (lines_bytes w i (map line fronts) ++ mid) mid rest [] (map (λ e. e.0) es) first last in
     subst (λ x. Gives true (lines_bytes w i x ++ rest) ns rest) (sym lines_are)

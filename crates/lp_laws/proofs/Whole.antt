@@ -1,35 +1,32 @@
 -- What is printed without blanks in front of its lines is read, part by part.
-use Rattle.std.proofs.Common.{◌≡◌, ℕ, ◌+◌, ◌==◌, ◌<◌, ◌≤◌, zero, suc, Bool, true, false, not, cond, ◌&&◌, ◌||◌, if◌then◌else◌, List, [], ◌∷◌, ◌++◌, length, get_or, take, drop, codes, All, refl, sym, ap, ◌∙◌, subst, arith, eqb, inl, inr, ⊎_elim, append_assoc, append-nil}
-use Rattle.std.specs.List.{list_all, list_any, ends_with}
-use Rattle.std.specs.Str.{chars, bytes_eq}
-use Rattle.std.proofs.lemmas.Bool.{and_parts, or_cases, or_left, or_right, cases_Bool, cond-true, cond-false, eqb-true, not-true, both_ways}
+use Rattle.std.proofs.Common.{◌≡◌, ℕ, ◌+◌, zero, suc, Bool, true, false, not, ◌&&◌, List, [], ◌∷◌, ◌++◌, length, take, drop, codes, All, refl, sym, ap, ◌∙◌, subst, arith, inl, inr, ⊎_elim, append-nil}
+use Rattle.std.specs.List.{list_all}
+use Rattle.std.proofs.lemmas.Bool.{and_parts, or_cases, or_left, or_right, cases_Bool, cond-true, cond-false, not-true, both_ways}
 use Rattle.std.proofs.lemmas.List.Elements.{All-head, All-tail}
 use Rattle.lp_form.specs.Templates.{steps_of, holes_of}
 use Rattle.lp_form.specs.Templates as template
 use Rattle.lp_form.specs.declared.part.Part.{Part}
 use Rattle.lp_form.specs.declared.part.Part.TheVariants as part
 use Rattle.lp_form.specs.declared.template.Kind.{Kind}
-use Rattle.lp_form.specs.declared.template.Step.{Step}
 use Rattle.lp_write.specs.Lines.{Line, blanks, lowered, lines_bytes, indent_after_all}
 use Rattle.lp_write.specs.declared.rust.Options.{Options}
 use Rattle.lp_spelling.specs.Counting.{settled}
-use Rattle.lp_program.specs.OwnLines.{hole, own_lines}
+use Rattle.lp_program.specs.OwnLines.{own_lines}
 use Rattle.lp_program.specs.Printed.{takes, Printed, all_lines, step_lines, printed}
-use Rattle.lp_program.specs.Reads.{TakesOwn, may_have, graft, parts_in, hole_count, KindsFill, Reads, trees, steps}
+use Rattle.lp_program.specs.Reads.{may_have, graft, parts_in, hole_count, KindsFill, Reads, trees, steps}
 use Rattle.lp_program.specs.Reads.Reads.{no_tree, one_tree, no_step, one_step}
 use Rattle.lp_program.specs.Trees.{Content, Forest, tree_count}
 use Rattle.lp_program.specs.Trees.Forest.{bare, tree}
-use Rattle.lp_laws.specs.TemplateTests.{has_code, is_code_only, is_class, exact_after, closes_next, is_one, is_sound_step, are_sound, is_sound}
+use Rattle.lp_laws.specs.TemplateTests.{has_code, is_class, exact_after, closes_next, is_one, is_sound_step, are_sound}
 use Rattle.lp_laws.specs.WellFormed.{StepFits, is_shared, taken_in}
-use Rattle.lp_laws.specs.AsRead.{code_read, content_read, forest_read}
+use Rattle.lp_laws.specs.AsRead.{content_read, forest_read}
 use Rattle.lp_laws.proofs.Bytes.{bytes-split}
-use Rattle.lp_laws.proofs.Templates.{templates_sound, code_part}
 use Rattle.lp_laws.proofs.Forests.{front, behind, graft_split, count_split, parts_front, parts_behind, printed_front, printed_behind, taken_parts, taken_belong, none_taken, no_trees, no_count, length-parts}
-use Rattle.lp_laws.proofs.Own.{Ready, ready_same, ready_as, Own, Texts, own_read}
+use Rattle.lp_laws.proofs.Own.{Ready, ready_same, ready_as, Texts, own_read}
 use Rattle.lp_laws.proofs.Steps.{not_taken, class_own, class_takes, class_after, class_sound, one_part, any_code, code_belongs, no_class_none, Closing, closing_line, ends_table}
 
 -- the trees as they are read
-part_same : (w : Bool) (c : Content) → (content_read w c).part ≡ c.part
+pub part_same : (w : Bool) (c : Content) → (content_read w c).part ≡ c.part
 part_same w c = elim (cases_Bool (has_code (steps_of c.part))) [
   | inl y ↦ ap (λ (x : Content). x.part) (cond-true (has_code (steps_of c.part)) _ _ y)
   | inr n ↦ ap (λ (x : Content). x.part) (cond-false (has_code (steps_of c.part)) _ _ n)
@@ -127,13 +124,13 @@ trees_read options prefix (tree c below after) i text tail e h a =
     let mid : List ℕ = lines_bytes w (indent_after_all i own) others ++ tail in
     let parts : lines_bytes w i (own ++ others) ++ tail ≡ lines_bytes w i own ++ mid = bytes-split w i own others tail in
     let first = e.0.tree_reads i text mid (h ∙ ap settled parts)
-        (λ code. alone_tree options prefix c below after i text tail mid parts
-        (λ none. ap (λ x. lines_bytes w (indent_after_all i own) (all_lines (printed options prefix x)) ++ tail) none)
-        (a (or_left (has_code (steps_of c.part)) (any_code (parts_in after)) code))) in
+    (λ code. alone_tree options prefix c below after i text tail mid parts
+    (λ none. ap (λ x. lines_bytes w (indent_after_all i own) (all_lines (printed options prefix x)) ++ tail) none)
+    (a (or_left (has_code (steps_of c.part)) (any_code (parts_in after)) code))) in
     let next = trees_read options prefix after (indent_after_all i own) first.rest tail e.1 first.same
-        (λ code.
-        let none : after ≡ bare = alone_rest c below after (a (or_right (has_code (steps_of c.part)) (any_code (parts_in after)) code)).alone in
-        absurd (both_ways (any_code (parts_in after)) (ap (λ x. any_code (parts_in x)) none) code)) in
+    (λ code.
+    let none : after ≡ bare = alone_rest c below after (a (or_right (has_code (steps_of c.part)) (any_code (parts_in after)) code)).alone in
+    absurd (both_ways (any_code (parts_in after)) (ap (λ x. any_code (parts_in x)) none) code)) in
     record {
       rest = next.rest;
       reads = one_tree (content_read w c) (forest_read w below) (forest_read w after) text first.rest next.rest e.0.count e.0.kinds first.reads next.reads;
@@ -239,20 +236,20 @@ steps_read options prefix c kinds total (s ∷ others) f done i exact text tail 
           let j : ℕ = indent_after_all i own in
           let printed_rest : List ℕ = lines_bytes w j rest_lines ++ tail in
           let all : lines_bytes w i (step_lines options prefix c total (s ∷ others) (printed options prefix f)) ++ tail ≡ lines_bytes w i own ++ printed_rest =
-              ap (λ x. lines_bytes w i x ++ tail) (class_lines options prefix c total s others f y) ∙ bytes-split w i own rest_lines tail in
+          ap (λ x. lines_bytes w i x ++ tail) (class_lines options prefix c total s others f y) ∙ bytes-split w i own rest_lines tail in
           let ready : Ready exact text (lines_bytes w i own ++ printed_rest) = ready_as exact text _ (lines_bytes w i own ++ printed_rest) all r in
           let first = trees_read options prefix now i text printed_rest (each_front options prefix n f e) ready.same
-              (λ code. class_code options prefix c kinds total i j exact s others f text tail off y sound.0 q.0 ready code) in
+          (λ code. class_code options prefix c kinds total i j exact s others f text tail off y sound.0 q.0 ready code) in
           let counted = count_split n f in
           let next = steps_read options prefix c kinds total others later (done + tree_count now) j false first.rest tail off t
-              (ap (λ b. are_sound b kinds others) (sym (class_after s.0 y)) ∙ sound.1) later_fits q.1 (each_behind options prefix n f e) (omega (arith, counted, m))
-              (ready_same first.rest printed_rest first.same) in
+          (ap (λ b. are_sound b kinds others) (sym (class_after s.0 y)) ∙ sound.1) later_fits q.1 (each_behind options prefix n f e) (omega (arith, counted, m))
+          (ready_same first.rest printed_rest first.same) in
           let counts : done + tree_count now ≡ done + tree_count (forest_read w now) = ap (λ k. done + k) (sym (count_read w now)) in
           let may : may_have s.0 (parts_in (forest_read w now)) ≡ true = ap (may_have s.0) (parts_read w now) ∙ q.0 in
           let reads_next : Reads prefix (steps c (done + tree_count (forest_read w now)) others (forest_read w later)) first.rest next.rest =
-              subst (λ k. Reads prefix (steps c k others (forest_read w later)) first.rest next.rest) counts next.reads in
+          subst (λ k. Reads prefix (steps c k others (forest_read w later)) first.rest next.rest) counts next.reads in
           let reads_all : Reads prefix (steps c done (s ∷ others) (graft (forest_read w now) (forest_read w later))) text next.rest =
-              one_step c done s others (forest_read w now) (forest_read w later) text text first.rest next.rest may (class_takes prefix c done s.1 s.0 text y) first.reads reads_next in
+          one_step c done s others (forest_read w now) (forest_read w later) text text first.rest next.rest may (class_takes prefix c done s.1 s.0 text y) first.reads reads_next in
           record {
             rest = next.rest;
             reads = subst (λ x. Reads prefix (steps c done (s ∷ others) x) text next.rest) (split_read w n f) reads_all;
@@ -265,16 +262,16 @@ steps_read options prefix c kinds total (s ∷ others) f done i exact text tail 
           let j : ℕ = indent_after_all i own in
           let printed_rest : List ℕ = lines_bytes w j rest_lines ++ tail in
           let all : lines_bytes w i (step_lines options prefix c total (s ∷ others) (printed options prefix f)) ++ tail ≡ lines_bytes w i own ++ printed_rest =
-              ap (λ x. lines_bytes w i x ++ tail) (plain_lines options prefix c total s others f z) ∙ bytes-split w i own rest_lines tail in
+          ap (λ x. lines_bytes w i x ++ tail) (plain_lines options prefix c total s others f z) ∙ bytes-split w i own rest_lines tail in
           let ready : Ready exact text (lines_bytes w i own ++ printed_rest) = ready_as exact text _ (lines_bytes w i own ++ printed_rest) all r in
           let first = own_read options prefix c kinds done total i exact s.0 s.1 others text printed_rest t z sound.0 (All-head (λ x. StepFits c x.0) s others fits)
-              (λ none. let left = no_trees f (no_class_none others (parts_in f) none q.1) in let zero_left : tree_count f ≡ 0 = ap tree_count left in omega (arith, zero_left, m))
-              (λ ends. ends_table options prefix c kinds total j (exact_after s.0) others (printed options prefix f) tail t sound.1 ends)
-              ready in
+          (λ none. let left = no_trees f (no_class_none others (parts_in f) none q.1) in let zero_left : tree_count f ≡ 0 = ap tree_count left in omega (arith, zero_left, m))
+          (λ ends. ends_table options prefix c kinds total j (exact_after s.0) others (printed options prefix f) tail t sound.1 ends)
+          ready in
           let next = steps_read options prefix c kinds total others f done j (exact_after s.0) first.rest tail off t sound.1 later_fits q.1 e m first.ready in
           let counts : done ≡ done + tree_count bare = omega arith in
           let reads_next : Reads prefix (steps c (done + tree_count bare) others (forest_read w f)) first.rest next.rest =
-              subst (λ k. Reads prefix (steps c k others (forest_read w f)) first.rest next.rest) counts next.reads in
+          subst (λ k. Reads prefix (steps c k others (forest_read w f)) first.rest next.rest) counts next.reads in
           record {
             rest = next.rest;
             reads = one_step c done s others bare (forest_read w f) text first.rest first.rest next.rest q.0 first.takes (no_tree first.rest) reads_next;

@@ -3,3 +3,4 @@ pub mod LineTests
 pub mod TemplateTests
 pub mod WellFormed
 pub mod AsRead
+pub mod Laws

@@ -1,9 +1,11 @@
 -- Texts that stand on one line, from its first character that is no blank on.
-use Rattle.std.specs.Prelude.{◌≡◌, ℕ, Bool, true, false, List, [], ◌∷◌, codes, nat_eq}
+use Rattle.std.specs.Prelude.{◌≡◌, ℕ, Bool, true, false, List}
 use Rattle.std.specs.Char.{is_whitespace}
-use Rattle.std.specs.List.{list_all, starts_with}
+use Rattle.std.specs.List.{list_all}
 use Rattle.std.specs.Str.{IsUtf8, chars}
 use Rattle.lp_texts.specs.OneLine.{begins}
+use Rattle.lp_write.specs.Lines.{Line}
+use Rattle.lp_write.specs.Lines.Line.{line, verbatim}
 use Rattle.lp_spelling.specs.Counting.{is_text, is_skipped}
 
 -- no line feed
@@ -22,3 +24,8 @@ Counts text = IsLineText text × (is_skipped text ≡ false)
 
 abbrev pub IsSkipped : List ℕ → Type 0
 IsSkipped text = IsLineText text × (is_skipped text ≡ true)
+
+-- the text of a line
+abbrev pub text_in : Line → List ℕ
+text_in (line text) = text
+text_in (verbatim text) = text

@@ -1,5 +1,5 @@
 -- Programs that are well formed: their parts stand below one another as the templates say, and their texts are valid.
-use Rattle.std.specs.Prelude.{◌≡◌, ℕ, ◌-◌, ◌+◌, ◌^◌, ◌<◌, Bool, true, false, ◌&&◌, ◌==◌, if◌then◌else◌, min, List, [], ◌∷◌, ◌++◌, length, get_or, take, drop, replicate, codes, All, FitsSigned}
+use Rattle.std.specs.Prelude.{◌≡◌, ℕ, ◌^◌, ◌<◌, Bool, true, false, ◌&&◌, ◌==◌, if◌then◌else◌, min, List, [], ◌∷◌, ◌++◌, length, get_or, take, drop, replicate, codes, All, FitsSigned}
 use Rattle.std.specs.Int.{w32}
 use Rattle.std.specs.List.{prefix_len}
 use Rattle.std.specs.Str.{IsUtf8, chars}
