@@ -1,0 +1,240 @@
+-- The printed text of a program reads as it.
+use Rattle.std.proofs.Common.{◌≡◌, ℕ, ◌+◌, ◌-◌, ◌==◌, ◌<◌, ◌≤◌, zero, suc, Bool, true, false, not, cond, ◌&&◌, ◌||◌, if◌then◌else◌, List, [], ◌∷◌, ◌++◌, length, get_or, take, drop, replicate, codes, All, refl, sym, ap, ◌∙◌, subst, arith, eqb, inl, inr, ⊎_elim, append_assoc, append-nil, length-append}
+use Rattle.std.specs.List.{list_all, list_any, ends_with}
+use Rattle.std.specs.Str.{IsUtf8, chars, bytes_eq}
+use Rattle.std.proofs.lemmas.Bool.{and_parts, cases_Bool, cond-true, cond-false, ltb-true, both_ways}
+use Rattle.std.proofs.lemmas.List.{take_at, drop_at}
+use Rattle.std.proofs.lemmas.List.Elements.{All-head}
+use Rattle.std.proofs.lemmas.Str.{chars-append}
+use Rattle.lp_form.specs.Templates.{steps_of, holes_of}
+use Rattle.lp_form.specs.Templates as template
+use Rattle.lp_form.specs.declared.part.Part.TheVariants as part
+use Rattle.lp_form.specs.declared.template.Step.{Step}
+use Rattle.lp_form.specs.declared.template.Step.TheVariants as step
+use Rattle.lp_tok.specs.Cut.{StopsAt}
+use Rattle.lp_tok.specs.Cut.Splits.{splits_none}
+use Rattle.lp_write.specs.Lines.{lines_bytes}
+use Rattle.lp_write.specs.Lines.Line.{verbatim}
+use Rattle.lp_write.specs.declared.rust.Options.{Options}
+use Rattle.lp_spelling.specs.Counting.{settled}
+use Rattle.lp_program.specs.CodeReading.{IsCode, without_feed}
+use Rattle.lp_program.specs.OwnLines.{hole, code_lines}
+use Rattle.lp_program.specs.Printed.{step_lines, printed}
+use Rattle.lp_program.specs.Reads.{parts_in, hole_count, KindsFill, Reads, trees, steps, is_prefix, IsProgram}
+use Rattle.lp_program.specs.Reads.Reads.{no_tree, no_step, one_step}
+use Rattle.lp_program.specs.Trees.{Content, Forest, tree_count, whole}
+use Rattle.lp_program.specs.Trees.Forest.{bare, tree}
+use Rattle.lp_tree.specs.declared.tree.Entry.{Entry}
+use Rattle.lp_texts.specs.Identifiers.{is_identifier, is_word}
+use Rattle.lp_repr.specs.Names.{same_text}
+use Rattle.lp_spelling.proofs.Counting.{settled_none}
+use Rattle.lp_laws.specs.TemplateTests.{is_code, has_code, is_code_only, are_sound}
+use Rattle.lp_laws.specs.WellFormed.{IsCodeText, StepFits, IsWellPart, IsWell, is_shared}
+use Rattle.lp_laws.specs.AsRead.{code_read, content_read, forest_read}
+use Rattle.lp_laws.specs.Laws.{text_of, CompactReadsBack}
+use Rattle.lp_laws.proofs.Fronts.{chars_some}
+use Rattle.lp_laws.proofs.Sound.{IsPrefix, word_before}
+use Rattle.lp_laws.proofs.Templates.{templates_sound, code_part}
+use Rattle.lp_laws.proofs.Forests.{no_trees}
+use Rattle.lp_laws.proofs.Own.{ready_same, Texts}
+use Rattle.lp_laws.proofs.Steps.{Closing, any_code, no_class_none}
+use Rattle.lp_laws.proofs.Whole.{TreeOk, Each, no_blanks_of, part_same, trees_read, steps_read}
+
+-- user code
+feed_off : (text : List ℕ) → without_feed (text ++ 10 ∷ []) ≡ text
+feed_off text =
+    let size = length-append text (10 ∷ []) in
+    let at : length (text ++ 10 ∷ []) - 1 ≡ length text = omega (arith, size) in
+    let last : drop (length (text ++ 10 ∷ []) - 1) (text ++ 10 ∷ []) ≡ 10 ∷ [] = drop_at text (10 ∷ []) (length (text ++ 10 ∷ []) - 1) (sym at) in
+    let ends : ends_with eqb (text ++ 10 ∷ []) (codes "\n") ≡ true = ap (λ x. bytes_eq (codes "\n") x) last in
+    cond-true (ends_with eqb (text ++ 10 ∷ []) (codes "\n")) _ _ ends ∙ take_at text (10 ∷ []) (length (text ++ 10 ∷ []) - 1) (sym at)
+
+none_split : {X : Type 0} (before after : List X) (k : X) → [] ≡ before ++ k ∷ after → ⊥
+none_split [] after k e = (cc)
+none_split (b ∷ before) after k e = (cc)
+
+stops_here : (rest : List ℕ) → StopsAt (125 ∷ rest) (125 ∷ rest)
+stops_here rest = (
+  [],
+  record { splits = splits_none (125 ∷ rest); goes_on = λ before after k e d. absurd (none_split before after k e) },
+  refl,
+  inl (_, rest, refl, tt),
+)
+
+brace_chars : (more : List ℕ) → chars (125 ∷ 10 ∷ more) ≡ 125 ∷ chars (10 ∷ more)
+unfolding chars
+brace_chars more = refl
+
+stops_brace : (more : List ℕ) → StopsAt (chars (125 ∷ 10 ∷ more)) (chars (125 ∷ 10 ∷ more))
+stops_brace more = subst (λ x. StopsAt x x) (sym (brace_chars more)) (stops_here (chars (10 ∷ more)))
+
+closes_it : (text : List ℕ) → Closing text → Rattle.std.specs.List.starts_with eqb text (codes "}") ≡ true
+closes_it text c = ap (λ x. Rattle.std.specs.List.starts_with eqb x (codes "}")) c.is
+
+-- nothing is printed for `()`
+no_code : (text tail : List ℕ) → text ≡ tail → Closing tail → IsCode text [] tail
+no_code text tail e c = record {
+  whole = [];
+  front = e;
+  stops = subst (λ x. StopsAt (chars x) (chars tail)) (sym e) (subst (λ x. StopsAt (chars x) (chars x)) (sym c.is) (stops_brace c.more));
+  closes = closes_it tail c;
+  code_is = refl;
+}
+
+some_code : (code text tail : List ℕ) → IsCodeText code → text ≡ (code ++ 10 ∷ []) ++ tail → Closing tail → IsCode text code tail
+some_code code text tail f e c =
+    let whole : text ≡ (code ++ 10 ∷ []) ++ (125 ∷ 10 ∷ c.more) = e ∙ ap (λ x. (code ++ 10 ∷ []) ++ x) c.is in
+    record {
+      whole = code ++ 10 ∷ [];
+      front = e;
+      stops = subst (λ x. StopsAt (chars x) (chars tail)) (sym whole) (subst (λ x. StopsAt (chars ((code ++ 10 ∷ []) ++ (125 ∷ 10 ∷ c.more))) (chars x)) (sym c.is) (f c.more));
+      closes = closes_it tail c;
+      code_is = sym (feed_off code);
+    }
+
+printed_code : (options : Options) (i : ℕ) (code text tail : List ℕ) → options.whitespace ≡ false → IsCodeText code → text ≡ lines_bytes options.whitespace i (code_lines code) ++ tail → Closing tail →
+    IsCode text (code_read options.whitespace code) tail
+printed_code options i code text tail off f e c = elim (cases_Bool (bytes_eq code (codes "()"))) [
+  | inl y ↦
+      let lines_are : code_lines code ≡ [] = cond-true (bytes_eq code (codes "()")) _ _ y in
+      let read_as : code_read options.whitespace code ≡ [] = cond-true (bytes_eq code (codes "()")) _ _ y in
+      subst (λ x. IsCode text x tail) (sym read_as) (no_code text tail (e ∙ ap (λ x. lines_bytes options.whitespace i x ++ tail) lines_are) c)
+  | inr n ↦
+      let lines_are : code_lines code ≡ verbatim code ∷ [] = cond-false (bytes_eq code (codes "()")) _ _ n in
+      let read_as : code_read options.whitespace code ≡ code = cond-false (bytes_eq code (codes "()")) _ _ n ∙ ap (λ x. x ++ code) (no_blanks_of options 4 off) in
+      let bytes : lines_bytes options.whitespace i (verbatim code ∷ []) ++ tail ≡ (code ++ 10 ∷ []) ++ tail =
+      ap (λ x. (((x ++ code) ++ 10 ∷ []) ++ []) ++ tail) (no_blanks_of options i off) ∙ ap (λ x. x ++ tail) (append-nil (code ++ 10 ∷ [])) in
+      subst (λ x. IsCode text x tail) (sym read_as) (some_code code text tail f (e ∙ ap (λ x. lines_bytes options.whitespace i x ++ tail) lines_are ∙ bytes) c)
+]
+
+-- the one step of a part of user code
+code_step : (options : Options) (prefix : List ℕ) (c read : Content) (total i : ℕ) (s : Step) (pieces : List Rattle.lp_form.specs.Templates.Piece) (f : Forest) (text tail : List ℕ) → options.whitespace ≡ false → is_code s ≡ true →
+    hole read 0 ≡ code_read options.whitespace (hole c 0) → StepFits c s → is_shared ((s, pieces) ∷ []) (parts_in f) ≡ true →
+    text ≡ lines_bytes options.whitespace i (step_lines options prefix c total ((s, pieces) ∷ []) (printed options prefix f)) ++ tail → Closing tail →
+    Reads prefix (steps read 0 ((s, pieces) ∷ []) (forest_read options.whitespace f)) text tail
+unfolding step_lines printed
+code_step options prefix c read total i step.Code pieces f text tail off k e fits h is closing =
+    let none : f ≡ bare = no_trees f (no_class_none ((step.Code, pieces) ∷ []) (parts_in f) refl h) in
+    let w : Bool = options.whitespace in
+    let lines_are : step_lines options prefix c total ((step.Code, pieces) ∷ []) (printed options prefix f) ≡ code_lines (hole c 0) =
+    ap (λ x. step_lines options prefix c total ((step.Code, pieces) ∷ []) (printed options prefix x)) none
+    ∙ append-nil (code_lines (hole c 0) ++ []) ∙ append-nil (code_lines (hole c 0)) in
+    let code : IsCode text (hole read 0) tail =
+    subst (λ x. IsCode text x tail) (sym e) (printed_code options i (hole c 0) text tail off fits (is ∙ ap (λ x. lines_bytes w i x ++ tail) lines_are) closing) in
+    subst (λ x. Reads prefix (steps read 0 ((step.Code, pieces) ∷ []) (forest_read w x)) text tail) (sym none)
+    (one_step read 0 (step.Code, pieces) [] bare bare text tail tail tail refl code (no_tree tail) (no_step read (0 + tree_count bare) tail))
+code_step options prefix c read total i _ pieces f text tail off k e fits h is closing = absurd (both_ways false refl k)
+
+code_steps : (options : Options) (prefix : List ℕ) (c read : Content) (total i : ℕ) (ss : List template.Line) (f : Forest) (text tail : List ℕ) → options.whitespace ≡ false → is_code_only ss ≡ true →
+    hole read 0 ≡ code_read options.whitespace (hole c 0) → All (λ s. StepFits c s.0) ss → is_shared ss (parts_in f) ≡ true →
+    text ≡ lines_bytes options.whitespace i (step_lines options prefix c total ss (printed options prefix f)) ++ tail → Closing tail →
+    Reads prefix (steps read 0 ss (forest_read options.whitespace f)) text tail
+code_steps options prefix c read total i [] f text tail off k e fits h is closing = absurd (both_ways false refl k)
+code_steps options prefix c read total i (s ∷ []) f text tail off k e fits h is closing =
+    code_step options prefix c read total i s.0 s.1 f text tail off k e (All-head (λ x. StepFits c x.0) s [] fits) h is closing
+code_steps options prefix c read total i (s ∷ t ∷ ss) f text tail off k e fits h is closing = absurd (both_ways false refl k)
+
+-- a part of user code
+code_hole_count : 1 ≡ hole_count part.UserBody
+unfolding steps_of holes_of
+code_hole_count = refl
+
+code_no_kinds : length (holes_of part.UserBody) ≡ 0
+unfolding holes_of
+code_no_kinds = refl
+
+abbrev with_code : Bool → Content → Content
+with_code w c = record c { holes = code_read w (hole c 0) ∷ [] }
+
+code_part_ok : (options : Options) (prefix : List ℕ) (c : Content) (below : Forest) → options.whitespace ≡ false → IsWellPart prefix c (parts_in below) → has_code (steps_of c.part) ≡ true → TreeOk options prefix c below
+code_part_ok options prefix c below off p h =
+    let w : Bool = options.whitespace in
+    let same : content_read w c ≡ with_code w c = cond-true (has_code (steps_of c.part)) _ _ h in
+    let only : is_code_only (steps_of c.part) ≡ true = sym (cond-true (has_code (steps_of c.part)) (is_code_only (steps_of c.part)) (are_sound false (holes_of c.part) (steps_of c.part)) h) ∙ templates_sound c.part in
+    let user : c.part ≡ part.UserBody = code_part c.part h in
+    let none : length (holes_of c.part) ≡ 0 = ap (λ x. length (holes_of x)) user ∙ code_no_kinds in
+    record {
+      tree_reads = λ i text tail e at.
+          (let a = at h in record {
+            rest = tail;
+            reads = subst (λ x. Reads prefix (steps x 0 (steps_of x.part) (forest_read w below)) text tail) (sym same)
+                (code_steps options prefix c (with_code w c) (tree_count below) i (steps_of c.part) below text tail off only refl p.steps p.shared a.is a.closing);
+            same = refl;
+          });
+      count = subst (λ x. length x.holes ≡ hole_count x.part) (sym same) (code_hole_count ∙ sym (ap hole_count user));
+      kinds = subst (λ x. KindsFill prefix x.part x.holes) (sym same) (λ k lt. absurd (omega (arith, none, lt)));
+    }
+
+-- any other part
+plain_part_ok : (options : Options) (prefix : List ℕ) (c : Content) (below : Forest) → options.whitespace ≡ false → IsPrefix prefix → IsWellPart prefix c (parts_in below) → Each options prefix below → has_code (steps_of c.part) ≡ false →
+    TreeOk options prefix c below
+plain_part_ok options prefix c below off is_prefix p each h =
+    let w : Bool = options.whitespace in
+    let same : content_read w c ≡ c = cond-false (has_code (steps_of c.part)) _ _ h in
+    let sound : are_sound false (holes_of c.part) (steps_of c.part) ≡ true =
+    sym (cond-false (has_code (steps_of c.part)) (is_code_only (steps_of c.part)) (are_sound false (holes_of c.part) (steps_of c.part)) h) ∙ templates_sound c.part in
+    let texts : Texts prefix c (holes_of c.part) = record { prefix_is = is_prefix; fills = p.fills; notes = p.notes; few = p.few } in
+    let total : tree_count below ≡ 0 + tree_count below = omega arith in
+    record {
+      tree_reads = λ i text tail e at.
+          (let r = steps_read options prefix c (holes_of c.part) (tree_count below) (steps_of c.part) below 0 i false text tail off texts sound p.steps p.shared each total (ready_same text _ e) in
+          record {
+            rest = r.rest;
+            reads = subst (λ x. Reads prefix (steps x 0 (steps_of x.part) (forest_read w below)) text r.rest) (sym same) r.reads;
+            same = r.same;
+          });
+      count = subst (λ x. length x.holes ≡ hole_count x.part) (sym same) p.count;
+      kinds = subst (λ x. KindsFill prefix x.part x.holes) (sym same) (λ k lt. (p.fills k lt).0);
+    }
+
+pub each_well : (options : Options) (prefix : List ℕ) (f : Forest) → options.whitespace ≡ false → IsPrefix prefix → IsWell prefix f → Each options prefix f
+each_well options prefix bare off p w = tt
+each_well options prefix (tree c below after) off p w =
+    let inner = each_well options prefix below off p w.1 in
+    let ok : TreeOk options prefix c below = elim (cases_Bool (has_code (steps_of c.part))) [
+      | inl y ↦ code_part_ok options prefix c below off w.0 y
+      | inr n ↦ plain_part_ok options prefix c below off p w.0 inner n
+    ] in
+    (ok, each_well options prefix after off p w.2)
+
+-- a prefix
+prefix_is : (prefix : List ℕ) → is_prefix prefix ≡ true → IsUtf8 prefix → IsPrefix prefix
+prefix_is prefix h u =
+    let p = and_parts (Rattle.std.proofs.Common.ltb 0 (length prefix)) (is_identifier (prefix ++ codes "lalrpop_util")) h in
+    let q = and_parts (not (same_text (prefix ++ codes "lalrpop_util") (codes "_"))) (is_word (chars (prefix ++ codes "lalrpop_util"))) p.1 in
+    let whole : is_word (chars prefix ++ chars (codes "lalrpop_util")) ≡ true = ap is_word (sym (chars-append prefix (codes "lalrpop_util") u)) ∙ q.1 in
+    record { utf8 = u; word = word_before (chars prefix) (chars (codes "lalrpop_util")) (chars_some prefix u (ltb-true 0 (length prefix) p.0)) whole }
+
+-- the tree of a program has no user code itself
+program_plain : has_code (steps_of part.Program) ≡ false
+unfolding steps_of
+program_plain = refl
+
+no_code_on_top : (es : List Entry) → IsProgram (whole es) → any_code (parts_in (whole es)) ≡ true → ⊥
+no_code_on_top [] p a = p
+no_code_on_top (e ∷ es) p a =
+    let none : has_code (steps_of e.part) ≡ false = ap (λ x. has_code (steps_of x)) p ∙ program_plain in
+    both_ways (has_code (steps_of e.part) || false) (ap (λ b. b || false) none) a
+
+program_read : (w : Bool) (f : Forest) → IsProgram f → IsProgram (forest_read w f)
+program_read w bare p = p
+program_read w (tree c below after) p = part_same w c ∙ p
+
+-- the law
+pub compact_reads_back : CompactReadsBack
+compact_reads_back options program read off well alike =
+    let prefix : List ℕ = program.prefix in
+    let f : Forest = whole program.entries.items in
+    let w : Bool = options.whitespace in
+    let is : IsPrefix prefix = prefix_is prefix well.prefix_fits well.prefix_utf8 in
+    let text : List ℕ = text_of options program in
+    let r = trees_read options prefix f 0 text [] (each_well options prefix f off is well.trees) (ap settled (sym (append-nil text)))
+    (λ a. absurd (no_code_on_top program.entries.items well.first a)) in
+    let same : forest_read w f ≡ whole read.entries.items = ap (λ b. forest_read b f) off ∙ sym alike.trees in
+    record {
+      rest = r.rest;
+      prefix_fits = ap is_prefix alike.prefix ∙ well.prefix_fits;
+      first = subst IsProgram same (program_read w f well.first);
+      reads = subst (λ p. Reads p (trees (whole read.entries.items)) text r.rest) (sym alike.prefix) (subst (λ x. Reads prefix (trees x) text r.rest) same r.reads);
+      nothing_left = r.same ∙ settled_none;
+    }

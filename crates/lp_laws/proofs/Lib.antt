@@ -1,0 +1,14 @@
+pub mod Lining
+pub mod OnLine
+pub mod Fronts
+pub mod Sound
+pub mod Bytes
+pub mod Templates
+pub mod Numbers
+pub mod Entries
+pub mod TableLines
+pub mod Forests
+pub mod Own
+pub mod Steps
+pub mod Whole
+pub mod Law

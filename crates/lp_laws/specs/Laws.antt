@@ -1,0 +1,36 @@
+-- What the laws say: printed lines, tables and programs are read as what they were.
+use Rattle.std.specs.Prelude.{◌≡◌, ℕ, ℤ, ◌^◌, ◌<◌, Bool, false, List, ◌∷◌, ◌++◌, length, replicate, All, Some, FitsSigned}
+use Rattle.std.specs.Int.{w32}
+use Rattle.lp_tree.specs.declared.tree.Program.{Program}
+use Rattle.lp_write.specs.Lines.{Line, line_bytes, lines_bytes}
+use Rattle.lp_write.specs.declared.rust.Options.{Options}
+use Rattle.lp_spelling.specs.Counting.{settled}
+use Rattle.lp_spelling.specs.TableReading.{entries}
+use Rattle.lp_program.specs.Printed.{lines}
+use Rattle.lp_program.specs.Reads.{TakesLine, ReadsAs}
+use Rattle.lp_program.specs.TableRows.{table_lines}
+use Rattle.lp_program.specs.Trees.{Note}
+use Rattle.lp_laws.specs.LineTexts.{Counts, IsSkipped, text_in}
+use Rattle.lp_laws.specs.WellFormed.{IsNote, IsWellFormed}
+use Rattle.lp_laws.specs.AsRead.{IsRead}
+
+-- whatever the indent, a printed line that counts is taken off the text as it is
+abbrev pub LinesComeBack : Type 0
+LinesComeBack = (whitespace : Bool) (indent : ℕ) (line : Line) (rest : List ℕ) → Counts (text_in line) → TakesLine (text_in line) (line_bytes whitespace indent line ++ rest) rest
+
+-- and one that is empty or a comment is passed over
+abbrev pub OthersDont : Type 0
+OthersDont = (whitespace : Bool) (indent : ℕ) (line : Line) (rest : List ℕ) → IsSkipped (text_in line) → settled (line_bytes whitespace indent line ++ rest) ≡ settled rest
+
+-- the rows of a table, in front of blanks and a `]`, are read as its numbers: with comments and without, wherever the rows end
+abbrev pub TablesComeBack : Type 0
+TablesComeBack = (options : Options) (indent blanks : ℕ) (numbers : List ℤ) (notes : List Note) (rest : List ℕ) → length notes < 2 ^ 64 → All (FitsSigned w32) numbers → All IsNote notes →
+    entries (lines_bytes options.whitespace indent (table_lines options numbers notes) ++ (replicate blanks 32 ++ 93 ∷ rest)) ≡ Some (numbers, 93 ∷ rest)
+
+-- the bytes of a program's lines, the first without indent
+abbrev pub text_of : Options → Program → List ℕ
+text_of options program = lines_bytes options.whitespace 0 (lines options program)
+
+-- a program that is well formed, printed without whitespace, reads as it is, with comments and without
+abbrev pub CompactReadsBack : Type 0
+CompactReadsBack = (options : Options) (program read : Program) → options.whitespace ≡ false → IsWellFormed program → IsRead false program read → ReadsAs (text_of options program) read

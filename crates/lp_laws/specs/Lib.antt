@@ -1,0 +1,6 @@
+pub mod LineTexts
+pub mod LineTests
+pub mod TemplateTests
+pub mod WellFormed
+pub mod AsRead
+pub mod Laws

@@ -1,0 +1,21 @@
+//! Laws between the printing and the reading of programs.
+
+ghost use Rattle.lp_laws.specs.Laws.{LinesComeBack, OthersDont, TablesComeBack, CompactReadsBack};
+
+/// A printed line that counts is read as it is, whatever its indent. One that is empty or a comment
+/// is passed over.
+pub fn lines()
+    ensures counting { LinesComeBack }
+    ensures others { OthersDont }
+{}
+
+/// The rows of a table are read as its numbers, whatever the options and the comments.
+pub fn tables()
+    ensures { TablesComeBack }
+{}
+
+/// The text of a program that is well formed, printed without whitespace, reads as that program:
+/// comments change the text and not the program.
+pub fn compact_programs()
+    ensures { CompactReadsBack }
+{}

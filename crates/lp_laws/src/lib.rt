@@ -1,0 +1,4 @@
+//! Laws between the printing and the reading of programs, for all programs.
+#![tactic(auto)]
+
+pub mod laws;
