@@ -1,8 +1,9 @@
--- The blocks of token lines: each tells the run of a program on its line.
-use Rattle.std.specs.Prelude.{◌≡◌, ℕ, zero, suc, ◌+◌, List, [], ◌++◌, slice_get, Option, Some, None}
+-- The blocks of token lines: each tells the run, on its line, of the program that a text reads as.
+use Rattle.std.specs.Prelude.{◌≡◌, ℕ, zero, suc, ◌+◌, List, [], ◌++◌, length, slice_get, Option, Some, None}
 use Rattle.lp_driver.specs.Values.{Text}
 use Rattle.lp_lines.specs.Blocks.{block_text}
 use Rattle.lp_lines.specs.declared.token_line.TokenLine.{TokenLine}
+use Rattle.lp_program.specs.Reads.{ReadsAs}
 use Rattle.lp_run.specs.ProgramRun.{Finish, NoStart, ParameterCount}
 use Rattle.lp_run.specs.RunTold.{RunsProgram}
 use Rattle.lp_tree.specs.declared.tree.Program.{Program}
@@ -33,6 +34,10 @@ AreBlocks program params lines zero text = text ≡ []
 AreBlocks program params lines (suc place) text =
     (before : List ℕ) × AreBlocks program params lines place before × IsFollowed program params (slice_get lines place) place before text
 
+-- the program that a text reads as, with the blocks of its runs on all the lines
+abbrev pub AreRuns : Text → List Text → List TokenLine → List ℕ → Type 0
+AreRuns text params lines blocks = (program : Program) × ReadsAs text program × AreBlocks program params lines (length lines) blocks
+
 -- why a line has no run: its start is none, or its parameters are more or fewer than the values
 abbrev pub IsLineFault : Program → List Text → TokenLine → ℕ → TextRunFault → Type 0
 IsLineFault program params line number (fault.NoForm at) = ⊥
@@ -46,7 +51,7 @@ IsFirstWithout program params lines place why =
     (line : TokenLine) × (before : List ℕ) × (slice_get lines place ≡ Some line) × AreBlocks program params lines place before × IsLineFault program params line (place + 1) why
 
 -- why a text has no blocks of these lines
-abbrev pub IsRunFault : List Text → List TokenLine → TextRunFault → Type 0
-IsRunFault params lines (fault.NoForm line) = Unit {0}
-IsRunFault params lines fault.Memory = Unit {0}
-IsRunFault params lines why = (program : Program) × (place : ℕ) × IsFirstWithout program params lines place why
+abbrev pub IsRunFault : Text → List Text → List TokenLine → TextRunFault → Type 0
+IsRunFault text params lines (fault.NoForm line) = Unit {0}
+IsRunFault text params lines fault.Memory = Unit {0}
+IsRunFault text params lines why = (program : Program) × (place : ℕ) × ReadsAs text program × IsFirstWithout program params lines place why

@@ -1,9 +1,8 @@
 //! The runs of a parser text.
 
-ghost use Rattle.std.specs.Prelude.{◌≡◌, ◌++◌, [], length, string_bytes, IfOk, IfErr, OnOk, None, Some};
+ghost use Rattle.std.specs.Prelude.{◌≡◌, ◌++◌, [], string_bytes, IfOk, IfErr, OnOk, None, Some};
 ghost use Rattle.lp_lines.specs.Blocks.{block_text};
-ghost use Rattle.lp_tree.specs.declared.tree.Program.{Program};
-ghost use Rattle.lp_text_run.specs.Blocks.{AreBlocks, IsLineFault, IsRunFault, RunsLine};
+ghost use Rattle.lp_text_run.specs.Blocks.{AreRuns, IsLineFault, IsRunFault, RunsLine};
 ghost use Rattle.lp_text_run.specs.Courses.{Course};
 
 use lp_driver::RunError;
@@ -44,8 +43,8 @@ pub fn run_text(
     lines: &[TokenLine],
     params: &[Text],
 ) -> Result<Vec<u8>, TextRunFault>
-    ensures blocks { IfOk result (λ blocks. (program : Program) × AreBlocks program params.now lines.now (length lines.now) blocks.items) }
-    ensures fault { IfErr result (IsRunFault params.now lines.now) }
+    ensures blocks { IfOk result (λ blocks. AreRuns text.now params.now lines.now blocks.items) }
+    ensures fault { IfErr result (IsRunFault text.now params.now lines.now) }
 {
     let program = match read_program(alloc, text) {
         Ok(program) => program,

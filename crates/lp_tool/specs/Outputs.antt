@@ -8,12 +8,13 @@ use Rattle.lp_lines.specs.Scan.{all_some}
 use Rattle.lp_lines.specs.TokenLines.{line_of, lines_of}
 use Rattle.lp_lines.specs.Vocabularies.{vocabulary_of}
 use Rattle.lp_lines.specs.declared.token_line.TokenLine.{TokenLine}
+use Rattle.lp_program.specs.Reads.{ReadsAs}
 use Rattle.lp_repr.specs.declared.lr1.StartStates.{StartStates}
 use Rattle.lp_repr.specs.declared.repr.Grammar.{Grammar}
 use Rattle.lp_repr.specs.declared.values.Event.{Event}
 use Rattle.lp_repr.specs.declared.values.Outcome.{Outcome}
 use Rattle.lp_repr.specs.declared.values.RunItem.{RunItem}
-use Rattle.lp_text_run.specs.Blocks.{AreBlocks}
+use Rattle.lp_text_run.specs.Blocks.{AreRuns}
 use Rattle.lp_text_run.specs.Courses.{Course, IsCourse}
 use Rattle.lp_tree.specs.declared.tree.Program.{Program}
 use Rattle.lp_write.specs.declared.rust.Options.{Options}
@@ -29,17 +30,16 @@ values_of g = map (λ p. p.name) g.parameters
 abbrev pub AreLinesOf : Grammar → List ℕ → List TokenLine → Type 0
 AreLinesOf g tail lines = all_some (map (line_of (vocabulary_of g)) (lines_of tail)) ≡ Some lines
 
--- the text of the parsers, of this length, the line `---`, and a block per token line, each of the run of
--- one program
+-- the text of the parsers, of this length, the line `---`, and a block per token line, each of the run of the
+-- program that the text reads as
 pub record IsRunOutput (g : Grammar) (tables : List StartStates) (options : Options) (tail : List ℕ) (text_len : ℕ) (output : List ℕ) : Type 0 where
   pub text : List ℕ
   pub emission : IsEmission g tables options text
   pub len : text_len ≡ length text
   pub lines : List TokenLine
   pub read : AreLinesOf g tail lines
-  pub program : Program
   pub blocks : List ℕ
-  pub told : AreBlocks program (values_of g) lines (length lines) blocks
+  pub told : AreRuns text (values_of g) lines blocks
   pub whole : output ≡ text ++ (codes "---" ++ 10 ∷ blocks)
 
 -- the number of the states of the first start
@@ -64,10 +64,12 @@ size_text states text_len = codes "states " ++ (decimal states ++ 10 ∷ (codes 
 abbrev pub IsMadeCourse : Program → Course → Type 0
 IsMadeCourse program course = (items : List RunItem) × IsCourse program (codes "E0") items [] [] 1000000 course
 
--- what is told of a generated text: the number of its states, its length, and the run of a program
-abbrev pub IsReport : ℕ → ℕ → List ℕ → Type 0
-IsReport states text_len output =
-    (program : Program) × (course : Course) × IsMadeCourse program course × (output ≡ size_text states text_len ++ course_text course.events course.outcome course.steps)
+-- what is told of a generated text: the number of its states, its length, and the run of the program that it
+-- reads as
+abbrev pub IsReport : List ℕ → ℕ → ℕ → List ℕ → Type 0
+IsReport text states text_len output =
+    (program : Program) × (course : Course) × ReadsAs text program × IsMadeCourse program course
+    × (output ≡ size_text states text_len ++ course_text course.events course.outcome course.steps)
 
 -- a tail that follows the text of a file, where its bytes are told
 abbrev pub IsTailIn : Option (List ℕ) → List ℕ → Type 0
@@ -78,4 +80,4 @@ abbrev pub IsOutput : Command → Option (List ℕ) → Grammar → List StartSt
 IsOutput (Emit options) left g tables text_len output = IsEmission g tables options output × (text_len ≡ length output)
 IsOutput (Run options) left g tables text_len output = (tail : List ℕ) × IsTailIn left tail × IsRunOutput g tables options tail text_len output
 IsOutput (Make levels) left g tables text_len output =
-    (text : List ℕ) × IsEmission g tables (looks false true) text × (text_len ≡ length text) × IsReport (first_count tables) text_len output
+    (text : List ℕ) × IsEmission g tables (looks false true) text × (text_len ≡ length text) × IsReport text (first_count tables) text_len output

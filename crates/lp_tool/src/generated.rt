@@ -65,7 +65,7 @@ fn state_count(tables: &[StartStates]) -> usize
 
 /// The lines that tell of a generated text and of its run.
 fn report(alloc: Global, text: &str, states: usize, levels: u8) -> Result<String, AllocError>
-    ensures { IfOk result (λ output. IsReport states (length text.now) (string_bytes output)) }
+    ensures { IfOk result (λ output. IsReport text.now states (length text.now) (string_bytes output)) }
 {
     let mut output = sizes(alloc, states, text.len())?;
     let program = match read_program(alloc, text) {

@@ -22,6 +22,6 @@ returns-clause-prepared c =
     let states : c.state_count-states.result ≡ first_count c.in_ok-file.file.tables.items = search rules in
     let size : length (string_bytes c.in-Ok-emitted.text) ≡ c.len.result = search rules in
     let bytes : string_bytes c.in-Ok-report.output ≡ c.into_bytes.result.items = search rules in
-    let lines : IsReport c.state_count-states.result (length (string_bytes c.in-Ok-emitted.text)) (string_bytes c.in-Ok-report.output) = search rules in
-    let report = report_of c.state_count-states.result (first_count c.in_ok-file.file.tables.items) (length (string_bytes c.in-Ok-emitted.text)) c.len.result (string_bytes c.in-Ok-report.output) c.into_bytes.result.items states size bytes lines in
+    let lines : IsReport (string_bytes c.in-Ok-emitted.text) c.state_count-states.result (length (string_bytes c.in-Ok-emitted.text)) (string_bytes c.in-Ok-report.output) = search rules in
+    let report = report_of (string_bytes c.in-Ok-emitted.text) c.state_count-states.result (first_count c.in_ok-file.file.tables.items) (length (string_bytes c.in-Ok-emitted.text)) c.len.result (string_bytes c.in-Ok-report.output) c.into_bytes.result.items states size bytes lines in
     λ left. made_make c.args.levels left c.in_ok-file.file.plain g tables c.len.result c.into_bytes.result.items (string_bytes c.in-Ok-emitted.text) c.in_ok-file.ensures.file.lowered c.in_ok-file.ensures.file.tables may text len report
