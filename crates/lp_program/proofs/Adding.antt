@@ -1,5 +1,5 @@
 -- What a reader adds, one thing after another.
-use Rattle.std.proofs.Common.{◌≡◌, ℕ, ◌+◌, ◌-◌, ◌<◌, ◌≤◌, Bool, true, false, ◌&&◌, ◌==◌, ltb, List, [], ◌∷◌, ◌++◌, length, take, drop, get_or, set, map, refl, sym, ap, ◌∙◌, arith, append_assoc, append-nil, length-append, take-append-drop, subst}
+use Rattle.std.proofs.Common.{◌≡◌, ℕ, ◌+◌, ◌-◌, ◌<◌, ◌≤◌, Bool, true, false, ◌&&◌, ◌==◌, ltb, List, [], ◌∷◌, ◌++◌, length, take, drop, get_or, set, refl, sym, ap, ◌∙◌, arith, append_assoc, append-nil, length-append, take-append-drop, subst}
 use Rattle.std.specs.List.{list_all}
 use Rattle.std.proofs.Math.Seq.{set-append_seam, get_or-append_seam}
 use Rattle.std.proofs.lemmas.Bool.{and_parts, and_from, eqb-true, false≢true, lt-ltb}
@@ -17,10 +17,10 @@ use Rattle.lp_tree.specs.declared.tree.Entry.{Entry}
 use Rattle.lp_tree.specs.declared.tree.Program.{Program}
 use Rattle.lp_program.specs.declared.read.growing.Growing.{Growing}
 use Rattle.lp_program.specs.declared.read.reader.Reader.{Reader}
-use Rattle.lp_program.specs.Adding.{Added, Extends, SamePlace, IsPart, IsPair, MayHave, Adds, Brings, Reread, kids, OwnTaken, StepAdds, StepBrings, StepsAdd, StepsBring, Opened, FilledAt, WholeRead, AllFilled, AllRead}
-use Rattle.lp_program.specs.Growing.{Grows, MayBecome, IsFilled}
+use Rattle.lp_program.specs.Adding.{Added, Extends, SamePlace, IsPart, IsPair, MayHave, Brings, Reread, kids, OwnTaken, StepBrings, StepsBring, Opened, FilledAt, WholeRead, AllFilled, AllRead}
+use Rattle.lp_program.specs.Growing.{IsFilled}
 use Rattle.lp_program.specs.Printed.{is_member}
-use Rattle.lp_program.specs.Reads.{graft, parts_in, may_have, are_pairs, hole_count, is_prefix, IsProgram, Reads, ReadsAs, TakesOwn}
+use Rattle.lp_program.specs.Reads.{graft, parts_in, may_have, are_pairs, hole_count, is_prefix, IsProgram, Reads, ReadsAs}
 use Rattle.lp_program.specs.Reads.Task.{trees}
 use Rattle.lp_program.specs.Trees.{Content, content, Forest, forest, whole, tree_count}
 use Rattle.lp_program.specs.Trees.Forest.{bare, tree}

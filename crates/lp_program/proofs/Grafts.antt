@@ -1,9 +1,8 @@
 -- Trees side by side: in a list of parts, and read one after another.
-use Rattle.std.proofs.Common.{◌≡◌, ℕ, List, [], ◌∷◌, ◌++◌, length, take, drop, refl, sym, ap, ◌∙◌, append_assoc, append-nil, subst}
+use Rattle.std.proofs.Common.{◌≡◌, ℕ, List, [], ◌∷◌, ◌++◌, length, take, drop, refl, sym, ap, ◌∙◌, append_assoc, append-nil}
 use Rattle.std.proofs.lemmas.List.{take_at, drop_at}
 use Rattle.lp_tree.specs.declared.tree.Entry.{Entry}
-use Rattle.lp_form.specs.declared.template.Step.{Step}
-use Rattle.lp_program.specs.Trees.{Content, content, Forest, forest}
+use Rattle.lp_program.specs.Trees.{content, Forest, forest}
 use Rattle.lp_program.specs.Trees.Forest.{bare, tree}
 use Rattle.lp_program.specs.Adding.{Holds}
 use Rattle.lp_program.specs.Reads.{graft, parts_in, Reads}

@@ -1,5 +1,5 @@
 -- A reader that has looked at its place, and what it sees there.
-use Rattle.std.proofs.Common.{◌≡◌, ℕ, zero, suc, ◌+◌, ◌<◌, Bool, true, false, ◌||◌, List, [], ◌∷◌, length, get_or, refl, sym, ap, ◌∙◌, arith, subst}
+use Rattle.std.proofs.Common.{◌≡◌, ℕ, zero, suc, ◌<◌, Bool, true, false, ◌||◌, List, [], ◌∷◌, length, get_or, refl, sym, ap, ◌∙◌, arith, subst}
 use Rattle.std.specs.List.{list_any}
 use Rattle.lp_form.specs.Classes.{members_of}
 use Rattle.lp_form.specs.contracts.part.PartPartialEq.TheImpl as equality

@@ -1,5 +1,5 @@
 -- A part of which some steps are read; as many parts, or pairs, as were read so far.
-use Rattle.std.proofs.Common.{◌≡◌, ◌+◌, ◌*◌, true}
+use Rattle.std.proofs.Common.{◌+◌, ◌*◌, true}
 use Rattle.lp_form.specs.declared.template.Step.TheVariants as step
 use Rattle.lp_program.specs.Adding.{Brings, MayHave}
 use Rattle.lp_program.proofs.Adding.{PartSoFar}

@@ -1,4 +1,3 @@
-use Rattle.std.proofs.Common.{length}
 use Rattle.std.proofs.lemmas.Result.{IfOk-weaker}
 use Rattle.lp_program.proofs.Adding.{own_as}
 use Rattle.lp_program.proofs.read.reader.Reader.own_taken.Goals as goal
