@@ -11,9 +11,10 @@ use Rattle.lp_form.specs.Templates as template
 use Rattle.lp_form.specs.declared.part.Part.TheVariants as part
 use Rattle.lp_form.specs.declared.template.Step.{Step}
 use Rattle.lp_form.specs.declared.template.Step.TheVariants as step
-use Rattle.lp_tok.specs.Cut.{StopsAt}
-use Rattle.lp_tok.specs.Cut.Splits.{splits_none}
-use Rattle.lp_write.specs.Lines.{lines_bytes}
+use Rattle.lp_tok.specs.Cut.{StopsAt, IsEnder, balance}
+use Rattle.lp_tok.specs.CodePieces.{kind_of}
+use Rattle.lp_tok.specs.Cut.Splits.{splits_none, splits_one}
+use Rattle.lp_write.specs.Lines.{blanks, lines_bytes}
 use Rattle.lp_write.specs.Lines.Line.{verbatim}
 use Rattle.lp_write.specs.declared.rust.Options.{Options}
 use Rattle.lp_spelling.specs.Counting.{settled}
@@ -30,15 +31,16 @@ use Rattle.lp_repr.specs.Names.{same_text}
 use Rattle.lp_spelling.proofs.Counting.{settled_none}
 use Rattle.lp_laws.specs.TemplateTests.{is_code, has_code, is_code_only, are_sound}
 use Rattle.lp_laws.specs.WellFormed.{IsCodeText, StepFits, IsWellPart, IsWell, is_shared}
-use Rattle.lp_laws.specs.AsRead.{code_read, content_read, forest_read}
-use Rattle.lp_laws.specs.Laws.{text_of, CompactReadsBack}
+use Rattle.lp_laws.specs.AsRead.{code_read, content_read, forest_read, IsRead}
+use Rattle.lp_laws.proofs.Lining.{chars_blank}
+use Rattle.lp_laws.specs.Laws.{text_of, ReadsBack, CompactReadsBack}
 use Rattle.lp_laws.proofs.Fronts.{chars_some}
 use Rattle.lp_laws.proofs.Sound.{IsPrefix, word_before}
 use Rattle.lp_laws.proofs.Templates.{templates_sound, code_part}
 use Rattle.lp_laws.proofs.Forests.{no_trees}
 use Rattle.lp_laws.proofs.Own.{ready_same, Texts}
 use Rattle.lp_laws.proofs.Steps.{Closing, any_code, no_class_none}
-use Rattle.lp_laws.proofs.Whole.{TreeOk, Each, no_blanks_of, part_same, trees_read, steps_read}
+use Rattle.lp_laws.proofs.Whole.{TreeOk, Each, part_same, trees_read, steps_read}
 
 -- user code
 feed_off : (text : List ℕ) → without_feed (text ++ 10 ∷ []) ≡ text
@@ -68,6 +70,31 @@ brace_chars more = refl
 stops_brace : (more : List ℕ) → StopsAt (chars (125 ∷ 10 ∷ more)) (chars (125 ∷ 10 ∷ more))
 stops_brace more = subst (λ x. StopsAt x x) (sym (brace_chars more)) (stops_here (chars (10 ∷ more)))
 
+-- blanks in front of user code change nothing of its cut
+blank_goes : (ks before after : List _) (k : _) → ((x y : List _) (z : _) → ks ≡ x ++ z ∷ y → IsEnder z → 0 < balance x) → kind_of 32 ∷ ks ≡ before ++ k ∷ after → IsEnder k → 0 < balance before
+blank_goes ks [] after k goes e d = let first : k ≡ kind_of 32 = cc in absurd (subst IsEnder first d)
+blank_goes ks (x ∷ before) after k goes e d =
+    let first : kind_of 32 ≡ x = cc in
+    let others : ks ≡ before ++ k ∷ after = cc in
+    subst (λ y. 0 < balance (y ∷ before)) first (goes before after k others d)
+
+stops_blank : (cs rest : List ℕ) → StopsAt cs rest → StopsAt (32 ∷ cs) rest
+stops_blank cs rest s = (
+  kind_of 32 ∷ s.0,
+  record { splits = splits_one (32 ∷ cs) cs rest (kind_of 32) s.0 refl s.1.splits; goes_on = λ before after k e d. blank_goes s.0 before after k s.1.goes_on e d },
+  s.2,
+  s.3,
+)
+
+stops_many : (k : ℕ) (x rest : List ℕ) → StopsAt (chars x) rest → StopsAt (chars (replicate k 32 ++ x)) rest
+stops_many zero x rest s = s
+stops_many (suc k) x rest s =
+    subst (λ y. StopsAt y rest) (sym (chars_blank (replicate k 32 ++ x))) (stops_blank (chars (replicate k 32 ++ x)) rest (stops_many k x rest s))
+
+stops_blanks : (w : Bool) (x rest : List ℕ) → StopsAt (chars x) rest → StopsAt (chars (blanks w 4 ++ x)) rest
+stops_blanks true x rest s = stops_many 4 x rest s
+stops_blanks false x rest s = s
+
 closes_it : (text : List ℕ) → Closing text → Rattle.std.specs.List.starts_with eqb text (codes "}") ≡ true
 closes_it text c = ap (λ x. Rattle.std.specs.List.starts_with eqb x (codes "}")) c.is
 
@@ -81,34 +108,39 @@ no_code text tail e c = record {
   code_is = refl;
 }
 
-some_code : (code text tail : List ℕ) → IsCodeText code → text ≡ (code ++ 10 ∷ []) ++ tail → Closing tail → IsCode text code tail
-some_code code text tail f e c =
-    let whole : text ≡ (code ++ 10 ∷ []) ++ (125 ∷ 10 ∷ c.more) = e ∙ ap (λ x. (code ++ 10 ∷ []) ++ x) c.is in
+some_code : (w : Bool) (code text tail : List ℕ) → IsCodeText code → text ≡ ((blanks w 4 ++ code) ++ 10 ∷ []) ++ tail → Closing tail → IsCode text (blanks w 4 ++ code) tail
+some_code w code text tail f e c =
+    let brace : List ℕ = 125 ∷ 10 ∷ c.more in
+    let sides : ((blanks w 4 ++ code) ++ 10 ∷ []) ++ brace ≡ blanks w 4 ++ ((code ++ 10 ∷ []) ++ brace) = simp append_assoc in
+    let whole : text ≡ blanks w 4 ++ ((code ++ 10 ∷ []) ++ brace) = e ∙ ap (λ x. ((blanks w 4 ++ code) ++ 10 ∷ []) ++ x) c.is ∙ sides in
+    let stops_there : StopsAt (chars (blanks w 4 ++ ((code ++ 10 ∷ []) ++ brace))) (chars brace) = stops_blanks w ((code ++ 10 ∷ []) ++ brace) (chars brace) (f c.more) in
     record {
-      whole = code ++ 10 ∷ [];
+      whole = (blanks w 4 ++ code) ++ 10 ∷ [];
       front = e;
-      stops = subst (λ x. StopsAt (chars x) (chars tail)) (sym whole) (subst (λ x. StopsAt (chars ((code ++ 10 ∷ []) ++ (125 ∷ 10 ∷ c.more))) (chars x)) (sym c.is) (f c.more));
+      stops = subst (λ x. StopsAt (chars x) (chars tail)) (sym whole) (subst (λ x. StopsAt (chars (blanks w 4 ++ ((code ++ 10 ∷ []) ++ brace))) (chars x)) (sym c.is) stops_there);
       closes = closes_it tail c;
-      code_is = sym (feed_off code);
+      code_is = sym (feed_off (blanks w 4 ++ code));
     }
 
-printed_code : (options : Options) (i : ℕ) (code text tail : List ℕ) → options.whitespace ≡ false → IsCodeText code → text ≡ lines_bytes options.whitespace i (code_lines code) ++ tail → Closing tail →
-    IsCode text (code_read options.whitespace code) tail
-printed_code options i code text tail off f e c = elim (cases_Bool (bytes_eq code (codes "()"))) [
-  | inl y ↦
-      let lines_are : code_lines code ≡ [] = cond-true (bytes_eq code (codes "()")) _ _ y in
-      let read_as : code_read options.whitespace code ≡ [] = cond-true (bytes_eq code (codes "()")) _ _ y in
-      subst (λ x. IsCode text x tail) (sym read_as) (no_code text tail (e ∙ ap (λ x. lines_bytes options.whitespace i x ++ tail) lines_are) c)
-  | inr n ↦
-      let lines_are : code_lines code ≡ verbatim code ∷ [] = cond-false (bytes_eq code (codes "()")) _ _ n in
-      let read_as : code_read options.whitespace code ≡ code = cond-false (bytes_eq code (codes "()")) _ _ n ∙ ap (λ x. x ++ code) (no_blanks_of options 4 off) in
-      let bytes : lines_bytes options.whitespace i (verbatim code ∷ []) ++ tail ≡ (code ++ 10 ∷ []) ++ tail =
-      ap (λ x. (((x ++ code) ++ 10 ∷ []) ++ []) ++ tail) (no_blanks_of options i off) ∙ ap (λ x. x ++ tail) (append-nil (code ++ 10 ∷ [])) in
-      subst (λ x. IsCode text x tail) (sym read_as) (some_code code text tail f (e ∙ ap (λ x. lines_bytes options.whitespace i x ++ tail) lines_are ∙ bytes) c)
-]
+printed_code : (options : Options) (i : ℕ) (code text tail : List ℕ) → blanks options.whitespace i ≡ blanks options.whitespace 4 → IsCodeText code →
+    text ≡ lines_bytes options.whitespace i (code_lines code) ++ tail → Closing tail → IsCode text (code_read options.whitespace code) tail
+printed_code options i code text tail at f e c =
+    let w : Bool = options.whitespace in
+    elim (cases_Bool (bytes_eq code (codes "()"))) [
+      | inl y ↦
+          let lines_are : code_lines code ≡ [] = cond-true (bytes_eq code (codes "()")) _ _ y in
+          let read_as : code_read w code ≡ [] = cond-true (bytes_eq code (codes "()")) _ _ y in
+          subst (λ x. IsCode text x tail) (sym read_as) (no_code text tail (e ∙ ap (λ x. lines_bytes w i x ++ tail) lines_are) c)
+      | inr n ↦
+          let lines_are : code_lines code ≡ verbatim code ∷ [] = cond-false (bytes_eq code (codes "()")) _ _ n in
+          let read_as : code_read w code ≡ blanks w 4 ++ code = cond-false (bytes_eq code (codes "()")) _ _ n in
+          let bytes : lines_bytes w i (verbatim code ∷ []) ++ tail ≡ ((blanks w 4 ++ code) ++ 10 ∷ []) ++ tail =
+          ap (λ x. (((x ++ code) ++ 10 ∷ []) ++ []) ++ tail) at ∙ ap (λ x. x ++ tail) (append-nil ((blanks w 4 ++ code) ++ 10 ∷ [])) in
+          subst (λ x. IsCode text x tail) (sym read_as) (some_code w code text tail f (e ∙ ap (λ x. lines_bytes w i x ++ tail) lines_are ∙ bytes) c)
+    ]
 
 -- the one step of a part of user code
-code_step : (options : Options) (prefix : List ℕ) (c read : Content) (total i : ℕ) (s : Step) (pieces : List Rattle.lp_form.specs.Templates.Piece) (f : Forest) (text tail : List ℕ) → options.whitespace ≡ false → is_code s ≡ true →
+code_step : (options : Options) (prefix : List ℕ) (c read : Content) (total i : ℕ) (s : Step) (pieces : List Rattle.lp_form.specs.Templates.Piece) (f : Forest) (text tail : List ℕ) → blanks options.whitespace i ≡ blanks options.whitespace 4 → is_code s ≡ true →
     hole read 0 ≡ code_read options.whitespace (hole c 0) → StepFits c s → is_shared ((s, pieces) ∷ []) (parts_in f) ≡ true →
     text ≡ lines_bytes options.whitespace i (step_lines options prefix c total ((s, pieces) ∷ []) (printed options prefix f)) ++ tail → Closing tail →
     Reads prefix (steps read 0 ((s, pieces) ∷ []) (forest_read options.whitespace f)) text tail
@@ -125,7 +157,7 @@ code_step options prefix c read total i step.Code pieces f text tail off k e fit
     (one_step read 0 (step.Code, pieces) [] bare bare text tail tail tail refl code (no_tree tail) (no_step read (0 + tree_count bare) tail))
 code_step options prefix c read total i _ pieces f text tail off k e fits h is closing = absurd (both_ways false refl k)
 
-code_steps : (options : Options) (prefix : List ℕ) (c read : Content) (total i : ℕ) (ss : List template.Line) (f : Forest) (text tail : List ℕ) → options.whitespace ≡ false → is_code_only ss ≡ true →
+code_steps : (options : Options) (prefix : List ℕ) (c read : Content) (total i : ℕ) (ss : List template.Line) (f : Forest) (text tail : List ℕ) → blanks options.whitespace i ≡ blanks options.whitespace 4 → is_code_only ss ≡ true →
     hole read 0 ≡ code_read options.whitespace (hole c 0) → All (λ s. StepFits c s.0) ss → is_shared ss (parts_in f) ≡ true →
     text ≡ lines_bytes options.whitespace i (step_lines options prefix c total ss (printed options prefix f)) ++ tail → Closing tail →
     Reads prefix (steps read 0 ss (forest_read options.whitespace f)) text tail
@@ -146,19 +178,19 @@ code_no_kinds = refl
 abbrev with_code : Bool → Content → Content
 with_code w c = record c { holes = code_read w (hole c 0) ∷ [] }
 
-code_part_ok : (options : Options) (prefix : List ℕ) (c : Content) (below : Forest) → options.whitespace ≡ false → IsWellPart prefix c (parts_in below) → has_code (steps_of c.part) ≡ true → TreeOk options prefix c below
-code_part_ok options prefix c below off p h =
+code_part_ok : (options : Options) (prefix : List ℕ) (c : Content) (below : Forest) → IsWellPart prefix c (parts_in below) → has_code (steps_of c.part) ≡ true → TreeOk options prefix c below
+code_part_ok options prefix c below p h =
     let w : Bool = options.whitespace in
     let same : content_read w c ≡ with_code w c = cond-true (has_code (steps_of c.part)) _ _ h in
     let only : is_code_only (steps_of c.part) ≡ true = sym (cond-true (has_code (steps_of c.part)) (is_code_only (steps_of c.part)) (are_sound false (holes_of c.part) (steps_of c.part)) h) ∙ templates_sound c.part in
     let user : c.part ≡ part.UserBody = code_part c.part h in
     let none : length (holes_of c.part) ≡ 0 = ap (λ x. length (holes_of x)) user ∙ code_no_kinds in
     record {
-      tree_reads = λ i text tail e at.
+      tree_reads = λ i text tail l e at.
           (let a = at h in record {
             rest = tail;
             reads = subst (λ x. Reads prefix (steps x 0 (steps_of x.part) (forest_read w below)) text tail) (sym same)
-                (code_steps options prefix c (with_code w c) (tree_count below) i (steps_of c.part) below text tail off only refl p.steps p.shared a.is a.closing);
+                (code_steps options prefix c (with_code w c) (tree_count below) i (steps_of c.part) below text tail a.indent only refl p.steps p.shared a.is a.closing);
             same = refl;
           });
       count = subst (λ x. length x.holes ≡ hole_count x.part) (sym same) (code_hole_count ∙ sym (ap hole_count user));
@@ -166,9 +198,9 @@ code_part_ok options prefix c below off p h =
     }
 
 -- any other part
-plain_part_ok : (options : Options) (prefix : List ℕ) (c : Content) (below : Forest) → options.whitespace ≡ false → IsPrefix prefix → IsWellPart prefix c (parts_in below) → Each options prefix below → has_code (steps_of c.part) ≡ false →
+plain_part_ok : (options : Options) (prefix : List ℕ) (c : Content) (below : Forest) → IsPrefix prefix → IsWellPart prefix c (parts_in below) → Each options prefix below → has_code (steps_of c.part) ≡ false →
     TreeOk options prefix c below
-plain_part_ok options prefix c below off is_prefix p each h =
+plain_part_ok options prefix c below is_prefix p each h =
     let w : Bool = options.whitespace in
     let same : content_read w c ≡ c = cond-false (has_code (steps_of c.part)) _ _ h in
     let sound : are_sound false (holes_of c.part) (steps_of c.part) ≡ true =
@@ -176,8 +208,8 @@ plain_part_ok options prefix c below off is_prefix p each h =
     let texts : Texts prefix c (holes_of c.part) = record { prefix_is = is_prefix; fills = p.fills; notes = p.notes; few = p.few } in
     let total : tree_count below ≡ 0 + tree_count below = omega arith in
     record {
-      tree_reads = λ i text tail e at.
-          (let r = steps_read options prefix c (holes_of c.part) (tree_count below) (steps_of c.part) below 0 i false text tail off texts sound p.steps p.shared each total (ready_same text _ e) in
+      tree_reads = λ i text tail l e at.
+          (let r = steps_read options prefix c (holes_of c.part) (tree_count below) (steps_of c.part) below 0 i false text tail l texts sound p.steps p.shared each total (ready_same text _ e) in
           record {
             rest = r.rest;
             reads = subst (λ x. Reads prefix (steps x 0 (steps_of x.part) (forest_read w below)) text r.rest) (sym same) r.reads;
@@ -187,15 +219,15 @@ plain_part_ok options prefix c below off is_prefix p each h =
       kinds = subst (λ x. KindsFill prefix x.part x.holes) (sym same) (λ k lt. (p.fills k lt).0);
     }
 
-pub each_well : (options : Options) (prefix : List ℕ) (f : Forest) → options.whitespace ≡ false → IsPrefix prefix → IsWell prefix f → Each options prefix f
-each_well options prefix bare off p w = tt
-each_well options prefix (tree c below after) off p w =
-    let inner = each_well options prefix below off p w.1 in
+pub each_well : (options : Options) (prefix : List ℕ) (f : Forest) → IsPrefix prefix → IsWell prefix f → Each options prefix f
+each_well options prefix bare p w = tt
+each_well options prefix (tree c below after) p w =
+    let inner = each_well options prefix below p w.1 in
     let ok : TreeOk options prefix c below = elim (cases_Bool (has_code (steps_of c.part))) [
-      | inl y ↦ code_part_ok options prefix c below off w.0 y
-      | inr n ↦ plain_part_ok options prefix c below off p w.0 inner n
+      | inl y ↦ code_part_ok options prefix c below w.0 y
+      | inr n ↦ plain_part_ok options prefix c below p w.0 inner n
     ] in
-    (ok, each_well options prefix after off p w.2)
+    (ok, each_well options prefix after p w.2)
 
 -- a prefix
 prefix_is : (prefix : List ℕ) → is_prefix prefix ≡ true → IsUtf8 prefix → IsPrefix prefix
@@ -221,20 +253,23 @@ program_read w bare p = p
 program_read w (tree c below after) p = part_same w c ∙ p
 
 -- the law
-pub compact_reads_back : CompactReadsBack
-compact_reads_back options program read off well alike =
+pub reads_back : ReadsBack
+reads_back options program read level well alike =
     let prefix : List ℕ = program.prefix in
     let f : Forest = whole program.entries.items in
     let w : Bool = options.whitespace in
     let is : IsPrefix prefix = prefix_is prefix well.prefix_fits well.prefix_utf8 in
     let text : List ℕ = text_of options program in
-    let r = trees_read options prefix f 0 text [] (each_well options prefix f off is well.trees) (ap settled (sym (append-nil text)))
-    (λ a. absurd (no_code_on_top program.entries.items well.first a)) in
-    let same : forest_read w f ≡ whole read.entries.items = ap (λ b. forest_read b f) off ∙ sym alike.trees in
+    let r = trees_read options prefix f 0 text [] (each_well options prefix f is well.trees) level (ap settled (sym (append-nil text))) (λ a. absurd (no_code_on_top program.entries.items well.first a)) in
     record {
       rest = r.rest;
       prefix_fits = ap is_prefix alike.prefix ∙ well.prefix_fits;
-      first = subst IsProgram same (program_read w f well.first);
-      reads = subst (λ p. Reads p (trees (whole read.entries.items)) text r.rest) (sym alike.prefix) (subst (λ x. Reads prefix (trees x) text r.rest) same r.reads);
+      first = subst IsProgram (sym alike.trees) (program_read w f well.first);
+      reads = subst (λ p. Reads p (trees (whole read.entries.items)) text r.rest) (sym alike.prefix) (subst (λ x. Reads prefix (trees x) text r.rest) (sym alike.trees) r.reads);
       nothing_left = r.same ∙ settled_none;
     }
+
+-- without whitespace no indent is printed
+pub compact_reads_back : CompactReadsBack
+compact_reads_back options program read off well alike =
+    reads_back options program read (λ on. absurd (both_ways options.whitespace off on)) well (subst (λ w. IsRead w program read) (sym off) alike)

@@ -10,5 +10,6 @@ pub mod TableLines
 pub mod Forests
 pub mod Own
 pub mod Steps
+pub mod Leveling
 pub mod Whole
 pub mod Law

@@ -47,7 +47,7 @@ line_behind a rest h =
     ∙ drop_at (a ++ 10 ∷ []) rest (length a + 1) (omega (arith, size))
 
 -- blanks in front are trimmed
-chars_blank : (x : List ℕ) → chars (32 ∷ x) ≡ 32 ∷ chars x
+pub chars_blank : (x : List ℕ) → chars (32 ∷ x) ≡ 32 ∷ chars x
 unfolding chars
 chars_blank [] = refl
 chars_blank (b ∷ x) = refl

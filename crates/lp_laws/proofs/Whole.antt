@@ -1,4 +1,4 @@
--- What is printed without blanks in front of its lines is read, part by part.
+-- What is printed is read, part by part.
 use Rattle.std.proofs.Common.{◌≡◌, ℕ, ◌+◌, zero, suc, Bool, true, false, not, ◌&&◌, List, [], ◌∷◌, ◌++◌, length, take, drop, codes, All, refl, sym, ap, ◌∙◌, subst, arith, inl, inr, ⊎_elim, append-nil}
 use Rattle.std.specs.List.{list_all}
 use Rattle.std.proofs.lemmas.Bool.{and_parts, or_cases, or_left, or_right, cases_Bool, cond-true, cond-false, not-true, both_ways}
@@ -20,9 +20,11 @@ use Rattle.lp_program.specs.Trees.Forest.{bare, tree}
 use Rattle.lp_laws.specs.TemplateTests.{has_code, is_class, exact_after, closes_next, is_one, is_sound_step, are_sound}
 use Rattle.lp_laws.specs.WellFormed.{StepFits, is_shared, taken_in}
 use Rattle.lp_laws.specs.AsRead.{content_read, forest_read}
+use Rattle.lp_laws.specs.Levels.{trees_pass, steps_pass, tests_of}
 use Rattle.lp_laws.proofs.Bytes.{bytes-split}
 use Rattle.lp_laws.proofs.Forests.{front, behind, graft_split, count_split, parts_front, parts_behind, printed_front, printed_behind, taken_parts, taken_belong, none_taken, no_trees, no_count, length-parts}
 use Rattle.lp_laws.proofs.Own.{Ready, ready_same, ready_as, Texts, own_read}
+use Rattle.lp_laws.proofs.Leveling.{plain_pass, ClassPasses, class_passes, blanks_at, blanks_closing}
 use Rattle.lp_laws.proofs.Steps.{not_taken, class_own, class_takes, class_after, class_sound, one_part, any_code, code_belongs, no_class_none, Closing, closing_line, ends_table}
 
 -- the trees as they are read
@@ -64,9 +66,13 @@ pub record TreeReads (options : Options) (prefix : List ℕ) (c : Content) (belo
   pub reads : Reads prefix (steps (content_read options.whitespace c) 0 (steps_of (content_read options.whitespace c).part) (forest_read options.whitespace below)) text rest
   pub same : settled rest ≡ settled tail
 
+-- user code below a tree stands at its indent, where whitespace is on
+abbrev tree_passes : Options → List ℕ → Content → Forest → ℕ → Bool
+tree_passes options prefix c below i = steps_pass options prefix c (tree_count below) (steps_of c.part) i (printed options prefix below) (tests_of options prefix below)
+
 abbrev pub Tree : Options → List ℕ → Content → Forest → Type 0
 Tree options prefix c below =
-    (i : ℕ) (text tail : List ℕ) → settled text ≡ settled (lines_bytes options.whitespace i (tree_lines options prefix c below) ++ tail) →
+    (i : ℕ) (text tail : List ℕ) → (options.whitespace ≡ true → tree_passes options prefix c below i ≡ true) → settled text ≡ settled (lines_bytes options.whitespace i (tree_lines options prefix c below) ++ tail) →
     (has_code (steps_of c.part) ≡ true → AtCode options i text (lines_bytes options.whitespace i (tree_lines options prefix c below) ++ tail) tail) →
     TreeReads options prefix c below text tail
 
@@ -113,21 +119,23 @@ alone_tree options prefix c below after i text tail tail' e t a = record {
 }
 
 pub trees_read : (options : Options) (prefix : List ℕ) (f : Forest) (i : ℕ) (text tail : List ℕ) → Each options prefix f →
+    (options.whitespace ≡ true → trees_pass i (printed options prefix f) (tests_of options prefix f) ≡ true) →
     settled text ≡ settled (lines_bytes options.whitespace i (all_lines (printed options prefix f)) ++ tail) →
     (any_code (parts_in f) ≡ true → AloneAtCode options prefix f i text tail) → TreesRead options prefix f text tail
-unfolding printed
-trees_read options prefix bare i text tail e h a = record { rest = text; reads = no_tree text; same = h }
-trees_read options prefix (tree c below after) i text tail e h a =
+unfolding printed tests_of
+trees_read options prefix bare i text tail e l h a = record { rest = text; reads = no_tree text; same = h }
+trees_read options prefix (tree c below after) i text tail e l h a =
     let w : Bool = options.whitespace in
     let own : List Line = tree_lines options prefix c below in
     let others : List Line = all_lines (printed options prefix after) in
     let mid : List ℕ = lines_bytes w (indent_after_all i own) others ++ tail in
     let parts : lines_bytes w i (own ++ others) ++ tail ≡ lines_bytes w i own ++ mid = bytes-split w i own others tail in
-    let first = e.0.tree_reads i text mid (h ∙ ap settled parts)
+    let passes = λ (on : w ≡ true). and_parts (tree_passes options prefix c below i) (trees_pass (indent_after_all i own) (printed options prefix after) (tests_of options prefix after)) (l on) in
+    let first = e.0.tree_reads i text mid (λ on. (passes on).0) (h ∙ ap settled parts)
     (λ code. alone_tree options prefix c below after i text tail mid parts
     (λ none. ap (λ x. lines_bytes w (indent_after_all i own) (all_lines (printed options prefix x)) ++ tail) none)
     (a (or_left (has_code (steps_of c.part)) (any_code (parts_in after)) code))) in
-    let next = trees_read options prefix after (indent_after_all i own) first.rest tail e.1 first.same
+    let next = trees_read options prefix after (indent_after_all i own) first.rest tail e.1 (λ on. (passes on).1) first.same
     (λ code.
     let none : after ≡ bare = alone_rest c below after (a (or_right (has_code (steps_of c.part)) (any_code (parts_in after)) code)).alone in
     absurd (both_ways (any_code (parts_in after)) (ap (λ x. any_code (parts_in x)) none) code)) in
@@ -180,20 +188,16 @@ class_shared s others f h =
     let q = and_parts (may_have s.0 (take n (parts_in f))) (is_shared others (drop n (parts_in f))) h in
     (ap (may_have s.0) (parts_front n f) ∙ q.0, ap (is_shared others) (parts_behind n f) ∙ q.1)
 
-pub no_blanks_of : (options : Options) (k : ℕ) → options.whitespace ≡ false → blanks options.whitespace k ≡ []
-no_blanks_of options k off = cond-false options.whitespace _ [] off
-
 -- where a step takes user code, it is one part, and stands in front of a `}`
-class_code : (options : Options) (prefix : List ℕ) (c : Content) (kinds : List Kind) (total i j : ℕ) (exact : Bool) (s : template.Line) (others : List template.Line) (f : Forest) (text tail : List ℕ) → options.whitespace ≡ false →
+class_code : (options : Options) (prefix : List ℕ) (c : Content) (kinds : List Kind) (total i j : ℕ) (exact : Bool) (s : template.Line) (others : List template.Line) (f : Forest) (text tail : List ℕ) → (options.whitespace ≡ true → (i ≡ 4) × (j ≡ 4)) →
     is_class s.0 ≡ true → is_sound_step exact kinds s.0 s.1 others ≡ true → may_have s.0 (parts_in (front (taken_in s.0 (parts_in f)) f)) ≡ true →
     Ready exact text (lines_bytes options.whitespace i (all_lines (printed options prefix (front (taken_in s.0 (parts_in f)) f)))
     ++ (lines_bytes options.whitespace j (step_lines options prefix c total others (printed options prefix (behind (taken_in s.0 (parts_in f)) f))) ++ tail)) →
     any_code (parts_in (front (taken_in s.0 (parts_in f)) f)) ≡ true →
     AloneAtCode options prefix (front (taken_in s.0 (parts_in f)) f) i text (lines_bytes options.whitespace j (step_lines options prefix c total others (printed options prefix (behind (taken_in s.0 (parts_in f)) f))) ++ tail)
-class_code options prefix c kinds total i j exact s others f text tail off y h m r a =
+class_code options prefix c kinds total i j exact s others f text tail l y h m r a =
     let n : ℕ = taken_in s.0 (parts_in f) in
     let takes_it : takes s.0 part.UserBody ≡ true = code_belongs (takes s.0) (parts_in (front n f)) (ap (list_all (takes s.0)) (parts_front n f) ∙ taken_belong s.0 (parts_in f)) a in
-    let no_blanks = λ (k : ℕ). no_blanks_of options k off in
     ⊎_elim
     (λ none. absurd (both_ways (takes s.0 part.UserBody) (not-true (takes s.0 part.UserBody) none) takes_it))
     (λ k.
@@ -205,23 +209,24 @@ class_code options prefix c kinds total i j exact s others f text tail off y h m
       alone = omega (arith, one, size);
       at_code = record {
         is = r.is q2.0;
-        closing = closing_line options prefix c total j others (printed options prefix (behind n f)) tail q2.1 (no_blanks (lowered j (codes "}")));
-        indent = no_blanks i ∙ sym (no_blanks 4);
+        closing = closing_line options prefix c total j others (printed options prefix (behind n f)) tail q2.1 (blanks_closing options.whitespace j (λ on. (l on).1));
+        indent = blanks_at options.whitespace i (λ on. (l on).0);
       };
     })
     (or_cases (not (takes s.0 part.UserBody)) (is_one s.0 && (exact && closes_next others)) (class_sound exact kinds s.0 s.1 others y h))
 
-pub steps_read : (options : Options) (prefix : List ℕ) (c : Content) (kinds : List Kind) (total : ℕ) (ss : List template.Line) (f : Forest) (done i : ℕ) (exact : Bool) (text tail : List ℕ) → options.whitespace ≡ false →
+pub steps_read : (options : Options) (prefix : List ℕ) (c : Content) (kinds : List Kind) (total : ℕ) (ss : List template.Line) (f : Forest) (done i : ℕ) (exact : Bool) (text tail : List ℕ) →
+    (options.whitespace ≡ true → steps_pass options prefix c total ss i (printed options prefix f) (tests_of options prefix f) ≡ true) →
     Texts prefix c kinds → are_sound exact kinds ss ≡ true → All (λ s. StepFits c s.0) ss → is_shared ss (parts_in f) ≡ true → Each options prefix f → total ≡ done + tree_count f →
     Ready exact text (lines_bytes options.whitespace i (step_lines options prefix c total ss (printed options prefix f)) ++ tail) → StepsRead options prefix c done ss f text tail
 unfolding step_lines
-steps_read options prefix c kinds total [] f done i exact text tail off t p fits h e m r =
+steps_read options prefix c kinds total [] f done i exact text tail l t p fits h e m r =
     record {
       rest = text;
       reads = subst (λ x. Reads prefix (steps c done [] (forest_read options.whitespace x)) text text) (sym (no_trees f h)) (no_step c done text);
       same = r.same;
     }
-steps_read options prefix c kinds total (s ∷ others) f done i exact text tail off t p fits h e m r =
+steps_read options prefix c kinds total (s ∷ others) f done i exact text tail l t p fits h e m r =
     let w : Bool = options.whitespace in
     let sound = and_parts (is_sound_step exact kinds s.0 s.1 others) (are_sound (exact_after s.0) kinds others) p in
     let later_fits = All-tail (λ x. StepFits c x.0) s others fits in
@@ -238,10 +243,11 @@ steps_read options prefix c kinds total (s ∷ others) f done i exact text tail 
           let all : lines_bytes w i (step_lines options prefix c total (s ∷ others) (printed options prefix f)) ++ tail ≡ lines_bytes w i own ++ printed_rest =
           ap (λ x. lines_bytes w i x ++ tail) (class_lines options prefix c total s others f y) ∙ bytes-split w i own rest_lines tail in
           let ready : Ready exact text (lines_bytes w i own ++ printed_rest) = ready_as exact text _ (lines_bytes w i own ++ printed_rest) all r in
-          let first = trees_read options prefix now i text printed_rest (each_front options prefix n f e) ready.same
-          (λ code. class_code options prefix c kinds total i j exact s others f text tail off y sound.0 q.0 ready code) in
+          let level = λ (on : w ≡ true). class_passes options prefix c total i s others f y (l on) in
+          let first = trees_read options prefix now i text printed_rest (each_front options prefix n f e) (λ on. (level on).inner) ready.same
+          (λ code. class_code options prefix c kinds total i j exact s others f text tail (λ on. (level on).level code) y sound.0 q.0 ready code) in
           let counted = count_split n f in
-          let next = steps_read options prefix c kinds total others later (done + tree_count now) j false first.rest tail off t
+          let next = steps_read options prefix c kinds total others later (done + tree_count now) j false first.rest tail (λ on. (level on).outer) t
           (ap (λ b. are_sound b kinds others) (sym (class_after s.0 y)) ∙ sound.1) later_fits q.1 (each_behind options prefix n f e) (omega (arith, counted, m))
           (ready_same first.rest printed_rest first.same) in
           let counts : done + tree_count now ≡ done + tree_count (forest_read w now) = ap (λ k. done + k) (sym (count_read w now)) in
@@ -268,7 +274,7 @@ steps_read options prefix c kinds total (s ∷ others) f done i exact text tail 
           (λ none. let left = no_trees f (no_class_none others (parts_in f) none q.1) in let zero_left : tree_count f ≡ 0 = ap tree_count left in omega (arith, zero_left, m))
           (λ ends. ends_table options prefix c kinds total j (exact_after s.0) others (printed options prefix f) tail t sound.1 ends)
           ready in
-          let next = steps_read options prefix c kinds total others f done j (exact_after s.0) first.rest tail off t sound.1 later_fits q.1 e m first.ready in
+          let next = steps_read options prefix c kinds total others f done j (exact_after s.0) first.rest tail (λ on. plain_pass options prefix c total i s others f z (l on)) t sound.1 later_fits q.1 e m first.ready in
           let counts : done ≡ done + tree_count bare = omega arith in
           let reads_next : Reads prefix (steps c (done + tree_count bare) others (forest_read w f)) first.rest next.rest =
           subst (λ k. Reads prefix (steps c k others (forest_read w f)) first.rest next.rest) counts next.reads in

@@ -1,5 +1,5 @@
 -- What the laws say: printed lines, tables and programs are read as what they were.
-use Rattle.std.specs.Prelude.{◌≡◌, ℕ, ℤ, ◌^◌, ◌<◌, Bool, false, List, ◌∷◌, ◌++◌, length, replicate, All, Some, FitsSigned}
+use Rattle.std.specs.Prelude.{◌≡◌, ℕ, ℤ, ◌^◌, ◌<◌, Bool, true, false, List, ◌∷◌, ◌++◌, length, replicate, All, Some, FitsSigned}
 use Rattle.std.specs.Int.{w32}
 use Rattle.lp_tree.specs.declared.tree.Program.{Program}
 use Rattle.lp_write.specs.Lines.{Line, line_bytes, lines_bytes}
@@ -9,10 +9,11 @@ use Rattle.lp_spelling.specs.TableReading.{entries}
 use Rattle.lp_program.specs.Printed.{lines}
 use Rattle.lp_program.specs.Reads.{TakesLine, ReadsAs}
 use Rattle.lp_program.specs.TableRows.{table_lines}
-use Rattle.lp_program.specs.Trees.{Note}
+use Rattle.lp_program.specs.Trees.{Note, whole}
 use Rattle.lp_laws.specs.LineTexts.{Counts, IsSkipped, text_in}
 use Rattle.lp_laws.specs.WellFormed.{IsNote, IsWellFormed}
 use Rattle.lp_laws.specs.AsRead.{IsRead}
+use Rattle.lp_laws.specs.Levels.{is_level}
 
 -- whatever the indent, a printed line that counts is taken off the text as it is
 abbrev pub LinesComeBack : Type 0
@@ -30,6 +31,12 @@ TablesComeBack = (options : Options) (indent blanks : ℕ) (numbers : List ℤ) 
 -- the bytes of a program's lines, the first without indent
 abbrev pub text_of : Options → Program → List ℕ
 text_of options program = lines_bytes options.whitespace 0 (lines options program)
+
+-- a program that is well formed reads as it is, with comments and without; where whitespace is on, its user code is to
+-- stand at the indent of a function's body
+abbrev pub ReadsBack : Type 0
+ReadsBack = (options : Options) (program read : Program) → (options.whitespace ≡ true → is_level options program.prefix (whole program.entries.items) ≡ true) → IsWellFormed program →
+    IsRead options.whitespace program read → ReadsAs (text_of options program) read
 
 -- a program that is well formed, printed without whitespace, reads as it is, with comments and without
 abbrev pub CompactReadsBack : Type 0

@@ -3,4 +3,5 @@ pub mod LineTests
 pub mod TemplateTests
 pub mod WellFormed
 pub mod AsRead
+pub mod Levels
 pub mod Laws

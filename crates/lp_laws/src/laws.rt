@@ -1,6 +1,6 @@
 //! Laws between the printing and the reading of programs.
 
-ghost use Rattle.lp_laws.specs.Laws.{LinesComeBack, OthersDont, TablesComeBack, CompactReadsBack};
+ghost use Rattle.lp_laws.specs.Laws.{LinesComeBack, OthersDont, TablesComeBack, ReadsBack, CompactReadsBack};
 
 /// A printed line that counts is read as it is, whatever its indent. One that is empty or a comment
 /// is passed over.
@@ -12,6 +12,13 @@ pub fn lines()
 /// The rows of a table are read as its numbers, whatever the options and the comments.
 pub fn tables()
     ensures { TablesComeBack }
+{}
+
+/// The text of a program that is well formed reads as that program, whatever the options: comments
+/// and whitespace change the text and not the program. Where whitespace is on, its user code is to
+/// stand at the indent of a function's body.
+pub fn programs()
+    ensures { ReadsBack }
 {}
 
 /// The text of a program that is well formed, printed without whitespace, reads as that program:
