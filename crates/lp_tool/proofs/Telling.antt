@@ -61,10 +61,10 @@ pub answered_with : (plain : PlainGrammar) (s : Status) → s ≢ status.Memory 
 answered_with plain status.Done n o = absurd o
 answered_with plain status.Usage n o = absurd o
 answered_with plain (status.Grammar place) n o = absurd o
-answered_with plain (status.Conflict start path token) n o = tt
-answered_with plain (status.TooManyStates start paths) n o = tt
-answered_with plain (status.Refused error) n o = tt
-answered_with plain (status.TokenLine line) n o = tt
+answered_with plain (status.Conflict start path token) n o = refl
+answered_with plain (status.TooManyStates start paths) n o = refl
+answered_with plain (status.Refused error) n o = refl
+answered_with plain (status.TokenLine line) n o = refl
 answered_with plain status.TooLong n o = absurd o
 answered_with plain status.ReadFault n o = absurd o
 answered_with plain status.WriteFault n o = absurd o
@@ -72,8 +72,8 @@ answered_with plain status.Memory n o = absurd (n refl)
 
 -- a call that wrote answers it
 pub answered_written : (plain : PlainGrammar) (s : Status) → IsOfWriting s → IsAnswered (Some plain) s
-answered_written plain status.Done o = tt
-answered_written plain status.WriteFault o = tt
+answered_written plain status.Done o = refl
+answered_written plain status.WriteFault o = refl
 answered_written plain status.Usage o = absurd o
 answered_written plain (status.Grammar place) o = absurd o
 answered_written plain (status.Conflict start path token) o = absurd o
