@@ -1,5 +1,8 @@
 mod Blocks
+mod Caused
 mod Few
 mod LinesTold
+mod Supported
 mod Tabled
 mod Telling
+mod TextTold
