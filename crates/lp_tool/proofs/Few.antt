@@ -62,9 +62,9 @@ weight-insert_entry {K} {X} cmp w (e ∷ es) k v =
     let f : K × X → ℕ = λ x. w x.1 in
     let a = sum_by-cons f e es in
     elim (cmp k e.0) as (λ o. weight w (match_ordering o ((k, v) ∷ e ∷ es) ((e.0, v) ∷ es) (e ∷ insert_entry cmp es k v)) ≤ w v + weight w (e ∷ es)) [
-      Less ↦ let b = sum_by-cons f (k, v) (e ∷ es) in omega (arith, b)
-    | Equal ↦ let b = sum_by-cons f (e.0, v) es in omega (arith, a, b)
-    | Greater ↦ let b = sum_by-cons f e (insert_entry cmp es k v) in let c = weight-insert_entry cmp w es k v in omega (arith, a, b, c)
+      | Less ↦ let b = sum_by-cons f (k, v) (e ∷ es) in omega (arith, b)
+      | Equal ↦ let b = sum_by-cons f (e.0, v) es in omega (arith, a, b)
+      | Greater ↦ let b = sum_by-cons f e (insert_entry cmp es k v) in let c = weight-insert_entry cmp w es k v in omega (arith, a, b, c)
     ]
 
 -- what a map holds weighs no more than what was put into it
@@ -106,8 +106,8 @@ rule_count : (o : Option PlainRule) (es : List Expanded) (ss : List (List Symbol
 rule_count None es ss e = refl
 rule_count (Some r) es ss e =
     elim (r.inline) as (λ b. length (cond b (map chosen es) (itself (Nonterminal r.name) ∷ [])) ≡ length (cond b ss ((Nonterminal r.name ∷ []) ∷ []))) [
-      true ↦ length-map es chosen ∙ e
-    | false ↦ refl
+      | true ↦ length-map es chosen ∙ e
+      | false ↦ refl
     ]
 
 terminal_count : (g : PlainGrammar) (n : ℕ) → length (terminal_pieces g n) ≡ length (terminal_options g n)
@@ -167,8 +167,8 @@ rule_weight g first r =
     let one : length made ≡ length (rule_sides g (inline_sides g) r) = length-expanded_all g (inlines_after g [] (first_action g) g.rules) (inline_sides g) (inlines_same g) first r.alternatives in
     let two : length (map (production_of r.name) made) ≡ length made = length-map made (production_of r.name) in
     elim (r.inline) as (λ b. weight size (cond b [] ((r.name, rule_data g (all_sources g) first r) ∷ [])) ≤ length (rule_sides g (inline_sides g) r)) [
-      true ↦ omega arith
-    | false ↦ omega (arith, one, two)
+      | true ↦ omega arith
+      | false ↦ omega (arith, one, two)
     ]
 
 -- the productions of some rules and their starts are as many as their right sides
@@ -196,13 +196,13 @@ few_after g before [] h n = omega arith
 few_after g before (r ∷ rs) h n =
     let whole = before ++ sides_with_start g r in
     elim (are_too_many whole) as (λ b. are_too_many whole ≡ b → cond b (Some r.place) (too_many_after g whole rs) ≡ None → length before + sum_by (λ x. length (sides_with_start g x)) (r ∷ rs) ≤ 65536) [
-      true ↦ λ p q. absurd (cc)
-    | false ↦ λ p q.
-        let fits : length whole ≤ 65536 = ltb-false 65536 (length whole) (or-false (nat_lt 65536 (length whole)) _ p) in
-        let a = few_after g whole rs fits q in
-        let b = length-append before (sides_with_start g r) in
-        let c = sum_by-cons (λ x. length (sides_with_start g x)) r rs in
-        omega (arith, a, b, c)
+      | true ↦ λ p q. absurd (cc)
+      | false ↦ λ p q.
+          let fits : length whole ≤ 65536 = ltb-false 65536 (length whole) (or-false (nat_lt 65536 (length whole)) _ p) in
+          let a = few_after g whole rs fits q in
+          let b = length-append before (sides_with_start g r) in
+          let c = sum_by-cons (λ x. length (sides_with_start g x)) r rs in
+          omega (arith, a, b, c)
     ] refl n
 
 few_productions : (plain : PlainGrammar) (g : Grammar) → IsAccepted plain → IsLowering plain g → length (productions_of g) ≤ 65536
@@ -229,7 +229,7 @@ few_counts : (plain : PlainGrammar) (g : Grammar) (tables : List StartStates) �
 few_counts plain g tables l t =
     let productions = few_productions plain g l.0 l.1 in
     few_tables 65536 (min (length (productions_of g)) 18446744073709551615) tables (omega arith)
-        (λ i table at. let a = few_states (rules_of g) (start_number g i) table.states (t.all.1 i table at).1 in omega (arith, a))
+    (λ i table at. let a = few_states (rules_of g) (start_number g i) table.states (t.all.1 i table at).1 in omega (arith, a))
 
 pub not_too_many : (plain : PlainGrammar) (g : Grammar) (tables : List StartStates) (count : ℕ) → LowersTo plain g → AreTablesOrNone g tables → Refuses g tables (TooMany count) → ⊥
 not_too_many plain g tables count l a r = ⊎_elim

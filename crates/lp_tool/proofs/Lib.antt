@@ -1,4 +1,7 @@
+mod Caused
 mod Few
 mod LinesTold
+mod Supported
 mod Tabled
 mod Telling
+mod TextTold

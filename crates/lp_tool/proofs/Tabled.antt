@@ -30,23 +30,23 @@ Fits g start name list = HasItsList name list × IfSome list (λ l. IsValidTable
 fits_list : (g : Grammar) (start : ℕ) (name : Option NonterminalString) (list : Option StartStates) (t : StartStates) → name ≡ Some t.start → list ≡ Some t → IsValidTables g start t.states → Fits g start name list
 fits_list g start name list t named listed valid =
     subst (λ (n : Option NonterminalString). Fits g start n list) (sym named)
-        (subst (Fits g start (Some t.start)) (sym listed) ((same_name t.start, valid.some_state), valid))
+    (subst (Fits g start (Some t.start)) (sym listed) ((same_name t.start, valid.some_state), valid))
 
 fits_none : (g : Grammar) (start : ℕ) (name : Option NonterminalString) (list : Option StartStates) → name ≡ None → list ≡ None → Fits g start name list
 fits_none g start name list unnamed unlisted =
     subst (λ (n : Option NonterminalString). Fits g start n list) (sym unnamed)
-        (subst (Fits g start None) (sym unlisted) (tt, tt))
+    (subst (Fits g start None) (sym unlisted) (tt, tt))
 
 -- each start has its list
 tabled : (g : Grammar) (tables : List StartStates) → AreTablesOf g tables → AreValid g tables → (start : ℕ) → IsTabled g tables start
 tabled g tables t v start =
     let names = keys g.start_nonterminals in
     ⊎_elim
-        (λ (found : (x : StartStates) × (start < length tables) × (slice_get tables start ≡ Some x) × (get_or tables start x ≡ x)).
-            fits_list g start (slice_get names start) (slice_get tables start) found.0 (t.all.1 start found.0 found.2).0 found.2 (v start found.0 found.2))
-        (λ (past : (length tables ≤ start) × (slice_get tables start ≡ None)).
-            fits_none g start (slice_get names start) (slice_get tables start) (slice_get_past names start (omega (arith, past.0, t.all.0))) past.1)
-        (slice_get_cases tables start).1
+    (λ (found : (x : StartStates) × (start < length tables) × (slice_get tables start ≡ Some x) × (get_or tables start x ≡ x)).
+    fits_list g start (slice_get names start) (slice_get tables start) found.0 (t.all.1 start found.0 found.2).0 found.2 (v start found.0 found.2))
+    (λ (past : (length tables ≤ start) × (slice_get tables start ≡ None)).
+    fits_none g start (slice_get names start) (slice_get tables start) (slice_get_past names start (omega (arith, past.0, t.all.0))) past.1)
+    (slice_get_cases tables start).1
 
 -- a list of valid tables is not refused for a rule
 not_refused : (g : Grammar) (start state rule : ℕ) (list : Option StartStates) → IfSome list (λ l. IsValidTables g start l.states) → MatchOption list ⊥ (λ l. RefusesTables g start l.states (Rule rule state)) → ⊥

@@ -5,6 +5,7 @@ use Rattle.lp_emit.specs.Texts.{IsEmission}
 use Rattle.lp_emit.specs.declared.errors.EmitError.{EmitError}
 use Rattle.lp_emit.specs.declared.errors.EmitError.TheVariants as emit
 use Rattle.lp_plain.specs.Front.{LowersTo}
+use Rattle.lp_reading.specs.Bytes.{IsPlainOf}
 use Rattle.lp_repr.specs.declared.lr1.StartStates.{StartStates}
 use Rattle.lp_repr.specs.declared.repr.Grammar.{Grammar}
 use Rattle.lp_starts.specs.Tables.{AreTablesOf, AreValid}
@@ -26,6 +27,7 @@ use Rattle.lp_tool.specs.declared.status.Status.{Status}
 use Rattle.lp_tool.specs.declared.status.Status.TheVariants as status
 use Rattle.lp_tool.specs.declared.tool.Prepared.{Prepared}
 use Rattle.lp_tool.proofs.Few.{not_too_many}
+use Rattle.lp_tool.proofs.Supported.{never_unsupported}
 use Rattle.lp_tool.proofs.Tabled.{not_for_tables}
 
 -- a stop with the plain grammar
@@ -36,7 +38,7 @@ told_with plain g (status.Grammar place) answered l t o h = tt
 told_with plain g (status.Conflict start path token) answered l t o h = (plain, g, h, l, t)
 told_with plain g (status.TooManyStates start paths) answered l t o h = (plain, g, h, l, t)
 told_with plain g (status.Refused error) answered l t o h = (plain, g, h, l, t)
-told_with plain g (status.TokenLine line) answered l t o h = tt
+told_with plain g (status.TokenLine line) answered l t o h = (plain, g, h, l, t)
 told_with plain g status.TooLong answered l t o h = tt
 told_with plain g status.ReadFault answered l t o h = tt
 told_with plain g status.WriteFault answered l t o h = absurd o
@@ -61,10 +63,10 @@ pub answered_with : (plain : PlainGrammar) (s : Status) → s ≢ status.Memory 
 answered_with plain status.Done n o = absurd o
 answered_with plain status.Usage n o = absurd o
 answered_with plain (status.Grammar place) n o = absurd o
-answered_with plain (status.Conflict start path token) n o = tt
-answered_with plain (status.TooManyStates start paths) n o = tt
-answered_with plain (status.Refused error) n o = tt
-answered_with plain (status.TokenLine line) n o = tt
+answered_with plain (status.Conflict start path token) n o = refl
+answered_with plain (status.TooManyStates start paths) n o = refl
+answered_with plain (status.Refused error) n o = refl
+answered_with plain (status.TokenLine line) n o = refl
 answered_with plain status.TooLong n o = absurd o
 answered_with plain status.ReadFault n o = absurd o
 answered_with plain status.WriteFault n o = absurd o
@@ -72,8 +74,8 @@ answered_with plain status.Memory n o = absurd (n refl)
 
 -- a call that wrote answers it
 pub answered_written : (plain : PlainGrammar) (s : Status) → IsOfWriting s → IsAnswered (Some plain) s
-answered_written plain status.Done o = tt
-answered_written plain status.WriteFault o = tt
+answered_written plain status.Done o = refl
+answered_written plain status.WriteFault o = refl
 answered_written plain status.Usage o = absurd o
 answered_written plain (status.Grammar place) o = absurd o
 answered_written plain (status.Conflict start path token) o = absurd o
@@ -84,18 +86,32 @@ answered_written plain status.TooLong o = absurd o
 answered_written plain status.ReadFault o = absurd o
 answered_written plain status.Memory o = absurd o
 
+-- and tells nothing of it
+pub told_written : (answered : Option PlainGrammar) (s : Status) → IsOfWriting s → Tells answered s
+told_written answered status.Done o = tt
+told_written answered status.WriteFault o = tt
+told_written answered status.Usage o = absurd o
+told_written answered (status.Grammar place) o = absurd o
+told_written answered (status.Conflict start path token) o = absurd o
+told_written answered (status.TooManyStates start paths) o = absurd o
+told_written answered (status.Refused error) o = absurd o
+told_written answered (status.TokenLine line) o = absurd o
+told_written answered status.TooLong o = absurd o
+told_written answered status.ReadFault o = absurd o
+told_written answered status.Memory o = absurd o
+
 -- an emission that is refused
-pub told_refused : (plain : PlainGrammar) (g : Grammar) (tables : List StartStates) (error : EmitError) (s : Status) → LowersTo plain g → AreTablesOrNone g tables → Refuses g tables error → IsRefusal error s → ToldOf g s
-told_refused plain g tables emit.Memory s l a r i = subst (ToldOf g) (sym i) tt
-told_refused plain g tables emit.NoStart s l a r i = subst (ToldOf g) (sym i) (tables, a, r)
-told_refused plain g tables emit.Unsupported s l a r i = subst (ToldOf g) (sym i) (tables, a, r)
-told_refused plain g tables (emit.BadGrammar rule place) s l a r i = subst (ToldOf g) (sym i) (tables, a, r)
-told_refused plain g tables emit.RecoveryInAscent s l a r i = subst (ToldOf g) (sym i) (tables, a, r)
-told_refused plain g tables (emit.NameClash first second) s l a r i = subst (ToldOf g) (sym i) (tables, a, r)
-told_refused plain g tables (emit.TooMany count) s l a r i = absurd (not_too_many plain g tables count l a r)
-told_refused plain g tables (emit.BadTables start state rule) s l a r i = absurd (not_for_tables g tables start state rule a r)
-told_refused plain g tables (emit.BadText place byte) s l a r i = subst (ToldOf g) (sym i) (tables, a, r)
-told_refused plain g tables emit.WriteFault s l a r i = absurd r
+pub told_refused : (text : List ℕ) (plain : PlainGrammar) (g : Grammar) (tables : List StartStates) (error : EmitError) (s : Status) → IsPlainOf text plain → LowersTo plain g → AreTablesOrNone g tables → Refuses g tables error → IsRefusal error s → ToldOf g s
+told_refused text plain g tables emit.Memory s p l a r i = subst (ToldOf g) (sym i) tt
+told_refused text plain g tables emit.NoStart s p l a r i = subst (ToldOf g) (sym i) (tables, a, r)
+told_refused text plain g tables emit.Unsupported s p l a r i = absurd (never_unsupported text plain g tables p l r)
+told_refused text plain g tables (emit.BadGrammar rule place) s p l a r i = subst (ToldOf g) (sym i) (tables, a, r)
+told_refused text plain g tables emit.RecoveryInAscent s p l a r i = subst (ToldOf g) (sym i) (tables, a, r)
+told_refused text plain g tables (emit.NameClash first second) s p l a r i = subst (ToldOf g) (sym i) (tables, a, r)
+told_refused text plain g tables (emit.TooMany count) s p l a r i = absurd (not_too_many plain g tables count l a r)
+told_refused text plain g tables (emit.BadTables start state rule) s p l a r i = absurd (not_for_tables g tables start state rule a r)
+told_refused text plain g tables (emit.BadText place byte) s p l a r i = subst (ToldOf g) (sym i) (tables, a, r)
+told_refused text plain g tables emit.WriteFault s p l a r i = absurd r
 
 -- a grammar that may be emitted has its tables
 pub emitted : (g : Grammar) (tables : List StartStates) → AreTablesOrNone g tables → MayBeEmitted g tables → IsEmitted g tables

@@ -5,6 +5,7 @@ use Rattle.lp_emit.specs.declared.errors.EmitError.{EmitError}
 use Rattle.lp_emit.specs.declared.errors.EmitError.TheVariants as emit
 use Rattle.lp_lines.specs.File.{IsCutFile}
 use Rattle.lp_plain.specs.Front.{LowersTo}
+use Rattle.lp_reading.specs.Bytes.{IsPlainOf}
 use Rattle.lp_repr.specs.declared.lr1.StartStates.{StartStates}
 use Rattle.lp_repr.specs.declared.repr.Grammar.{Grammar}
 use Rattle.lp_starts.specs.Tables.{AreTablesOf, AreValid, HasNoTables}
@@ -25,19 +26,24 @@ use Rattle.lp_tool.specs.declared.tool.Prepared.{Prepared}
 abbrev pub AreTablesOrNone : Grammar → List StartStates → Type 0
 AreTablesOrNone g tables = (AreTablesOf g tables × AreValid g tables) ⊎ ((tables ≡ []) × ((rule : ℕ) × (place : ℕ) × RefusesGrammar g (Rule rule place)))
 
--- the bytes of a file give a plain grammar, what it is lowered to, the tables of that, and what
--- follows the text
+-- the grammar has them, or has none for that cause
+abbrev pub HasTables : Grammar → Type 0
+HasTables g = (tables : List StartStates) × AreTablesOrNone g tables
+
+-- the bytes of a file give a plain grammar, which its text spells, what it is lowered to, the tables of
+-- that, and what follows the text
 pub record IsFile (bytes : List ℕ) (f : File) : Type 0 where
   pub lowered : LowersTo f.plain f.lowered
   pub tables : AreTablesOrNone f.lowered f.tables.items
-  pub tail : (text : List ℕ) × IsCutFile bytes text f.tail.items
+  pub tail : (text : List ℕ) × IsCutFile bytes text f.tail.items × IsPlainOf text f.plain
 
--- its emission is refused, which it never is for its tables, for too many states or productions, or for want of
--- memory, which is a status of its own
+-- its emission is refused, and never as unsupported, for its tables, for too many states or productions, or for want
+-- of memory, which is a status of its own
 abbrev pub IsRefused : Grammar → EmitError → Type 0
 IsRefused g (emit.BadTables start state rule) = ⊥
 IsRefused g (emit.TooMany count) = ⊥
 IsRefused g emit.Memory = ⊥
+IsRefused g emit.Unsupported = ⊥
 IsRefused g error = (tables : List StartStates) × AreTablesOrNone g tables × Refuses g tables error
 
 -- the status that tells of a refusal
@@ -51,6 +57,7 @@ abbrev pub ToldOf : Grammar → Status → Type 0
 ToldOf g (Conflict start path token) = HasNoTables g (none.Conflict start path token)
 ToldOf g (TooManyStates start paths) = HasNoTables g (none.TooManyStates start paths)
 ToldOf g (Refused error) = IsRefused g error
+ToldOf g (TokenLine line) = HasTables g
 ToldOf g status = Unit {0}
 
 -- the tables are those of the grammar, and it may be emitted with them
@@ -66,6 +73,7 @@ abbrev pub Tells : Option PlainGrammar → Status → Type 0
 Tells answered (Conflict start path token) = TellsOf answered (λ g. HasNoTables g (none.Conflict start path token))
 Tells answered (TooManyStates start paths) = TellsOf answered (λ g. HasNoTables g (none.TooManyStates start paths))
 Tells answered (Refused error) = TellsOf answered (λ g. IsRefused g error)
+Tells answered (TokenLine line) = TellsOf answered HasTables
 Tells answered status = Unit {0}
 
 -- a status of a grammar that was lowered, or of want of memory

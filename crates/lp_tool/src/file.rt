@@ -1,11 +1,12 @@
 //! From the bytes of a grammar file to its grammar and states.
 
 ghost use Rattle.std.specs.Prelude.{◌≡◌, ℕ, List, Option, None, Some, IfOk, IfErr};
-ghost use Rattle.lp_plain.specs.Front.{LowersTo};
+ghost use Rattle.lp_plain.specs.Front.{IsTextFault, LowersTo};
 ghost use Rattle.lp_repr.specs.declared.repr.Grammar.{Grammar};
 ghost use Rattle.lp_tool.specs.Causes.{IsOfFile};
-ghost use Rattle.lp_tool.specs.LinesTold.{IsOfNoLine, TellsLine, ToldOfLines};
+ghost use Rattle.lp_tool.specs.LinesTold.{IsBeforeLines, TellsRunLine, ToldOfLines};
 ghost use Rattle.lp_tool.specs.Outputs.{IsTailIn};
+ghost use Rattle.lp_tool.specs.TextTold.{OfText, Spells, ToldOfText};
 ghost use Rattle.lp_tool.specs.Told.{AreTablesOrNone, Holds, IsAnswered, IsFile, IsOfLowered, Tells, ToldOf};
 
 use crate::status::Status;
@@ -52,7 +53,8 @@ impl Stop {
         ensures grammar { Holds grammar status result.grammar }
         ensures answered { IsOfLowered status → IsAnswered result.grammar result.status }
         ensures told { (g : Grammar) → LowersTo grammar g → ToldOf g status → IsOfFile status → Tells result.grammar result.status }
-        ensures line { (g : Grammar) → (left : Option (List ℕ)) → (tail : List ℕ) → LowersTo grammar g → IsTailIn left tail → ToldOfLines g tail status → TellsLine left result.grammar result.status }
+        ensures text { (text : List ℕ) → Spells grammar text → IsOfLowered status → ToldOfText result.grammar result.status text }
+        ensures line { (g : Grammar) → (left : Option (List ℕ)) → (tail : List ℕ) → LowersTo grammar g → IsTailIn left tail → ToldOfLines g tail status → TellsRunLine left result.grammar result.status }
     {
         match status {
             Status::Memory => Stop::bare(status),
@@ -70,7 +72,8 @@ pub fn file_of(alloc: Global, bytes: &[u8]) -> Result<File, Stop>
     ensures stops { IfErr result (λ stop. IsOfFile stop.status) }
     ensures answered { IfErr result (λ stop. IsAnswered stop.grammar stop.status) }
     ensures told { IfErr result (λ stop. Tells stop.grammar stop.status) }
-    ensures no_line { IfErr result (λ stop. IsOfNoLine stop.status) }
+    ensures no_line { IfErr result (λ stop. IsBeforeLines stop.status) }
+    ensures text { IfErr result (λ stop. OfText bytes.now (ToldOfText stop.grammar stop.status)) }
 {
     let (text, tail) = cut_file(bytes);
     let (plain, lowered) = match lowered_of(alloc, text) {
@@ -93,7 +96,8 @@ fn unread(fault: BytesFault) -> Stop
     ensures stops { IsOfFile result.status }
     ensures answered { IsAnswered result.grammar result.status }
     ensures told { Tells result.grammar result.status }
-    ensures no_line { IsOfNoLine result.status }
+    ensures no_line { IsBeforeLines result.status }
+    ensures text { (text : List ℕ) → IsTextFault text fault → ToldOfText result.grammar result.status text }
 {
     match fault {
         BytesFault::Grammar { place } => Stop::bare(Status::Grammar { place }),
@@ -111,7 +115,7 @@ fn tables_and_tail(
     ensures stops { IfErr result IsOfFile }
     ensures grammar { IfErr result IsOfLowered }
     ensures told { IfErr result (ToldOf grammar.now) }
-    ensures no_line { IfErr result IsOfNoLine }
+    ensures no_line { IfErr result IsBeforeLines }
 {
     let tables = tables_or_none(alloc, grammar)?;
     match Vec::from_slice(alloc, tail) {
@@ -126,7 +130,7 @@ fn tables_or_none(alloc: Global, grammar: &Grammar) -> Result<Vec<StartStates>, 
     ensures stops { IfErr result IsOfFile }
     ensures grammar { IfErr result IsOfLowered }
     ensures told { IfErr result (ToldOf grammar.now) }
-    ensures no_line { IfErr result IsOfNoLine }
+    ensures no_line { IfErr result IsBeforeLines }
 {
     match tables_of(alloc, grammar) {
         Ok(tables) => Ok(tables),

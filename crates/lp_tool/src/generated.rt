@@ -5,6 +5,7 @@ ghost use Rattle.lp_tool.specs.Causes.{IsOfFile};
 ghost use Rattle.lp_tool.specs.LinesTold.{IsOfNoLine};
 ghost use Rattle.lp_text_run.specs.Courses.{Course, IsCourse};
 ghost use Rattle.lp_tool.specs.Outputs.{IsReport, course_text, first_count, size_text};
+ghost use Rattle.lp_tool.specs.TextTold.{OfFile, OfText, Spells, TellsText};
 ghost use Rattle.lp_tool.specs.Told.{IsAnswered, IsPrepared, Tells};
 ghost use Rattle.lp_tool.specs.declared.command.Command.{Command};
 
@@ -30,6 +31,8 @@ pub fn prepare_generated(alloc: Global, levels: u8) -> Result<Prepared, Stop>
     ensures answered { IfErr result (λ stop. IsAnswered stop.grammar stop.status) }
     ensures told { IfErr result (λ stop. Tells stop.grammar stop.status) }
     ensures no_line { IfErr result (λ stop. IsOfNoLine stop.status) }
+    ensures text { (left : Option (List ℕ)) → IfErr result (λ stop. TellsText (Some (Command.Make levels)) left stop.grammar stop.status) }
+    ensures spelled { (left : Option (List ℕ)) → IfOk result (λ p. OfFile (Some (Command.Make levels)) left (λ bytes. OfText bytes (Spells p.grammar))) }
     ensures prepared { (left : Option (List ℕ)) → IfOk result (IsPrepared (Some (Command.Make levels)) left) }
 {
     let Ok(source) = make_text(alloc, u32::from(levels)) else {
