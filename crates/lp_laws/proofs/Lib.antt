@@ -13,3 +13,5 @@ pub mod Steps
 pub mod Leveling
 pub mod Whole
 pub mod Law
+pub mod Existing
+pub mod Examples

@@ -12,7 +12,8 @@ use Rattle.lp_program.specs.TableRows.{table_lines}
 use Rattle.lp_program.specs.Trees.{Note, whole}
 use Rattle.lp_laws.specs.LineTexts.{Counts, IsSkipped, text_in}
 use Rattle.lp_laws.specs.WellFormed.{IsNote, IsWellFormed}
-use Rattle.lp_laws.specs.AsRead.{IsRead}
+use Rattle.lp_repr.specs.NormalCode.{norm_of}
+use Rattle.lp_laws.specs.AsRead.{code_read, IsRead}
 use Rattle.lp_laws.specs.Levels.{is_level}
 
 -- whatever the indent, a printed line that counts is taken off the text as it is
@@ -37,6 +38,14 @@ text_of options program = lines_bytes options.whitespace 0 (lines options progra
 abbrev pub ReadsBack : Type 0
 ReadsBack = (options : Options) (program read : Program) → (options.whitespace ≡ true → is_level options program.prefix (whole program.entries.items) ≡ true) → IsWellFormed program →
     IsRead options.whitespace program read → ReadsAs (text_of options program) read
+
+-- each program has one as which it is read
+abbrev pub EachIsRead : Type 0
+EachIsRead = (whitespace : Bool) (program : Program) → (read : Program) × IsRead whitespace program read
+
+-- and its user code is the same up to norm
+abbrev pub SameToNorm : Type 0
+SameToNorm = (whitespace : Bool) (code : List ℕ) → norm_of (code_read whitespace code) ≡ norm_of code
 
 -- a program that is well formed, printed without whitespace, reads as it is, with comments and without
 abbrev pub CompactReadsBack : Type 0

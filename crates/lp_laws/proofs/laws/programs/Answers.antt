@@ -1,5 +1,12 @@
+use Rattle.lp_laws.proofs.Existing.{each_is_read, same_to_norm}
 use Rattle.lp_laws.proofs.Law.{reads_back}
 use Rattle.lp_laws.proofs.laws.programs.Goals as goal
 
-pub returns : goal.returns
-returns c = reads_back
+pub returns-clause-text : goal.returns-clause-text
+returns-clause-text c = reads_back
+
+pub returns-clause-read : goal.returns-clause-read
+returns-clause-read c = each_is_read
+
+pub returns-clause-codes : goal.returns-clause-codes
+returns-clause-codes c = same_to_norm
