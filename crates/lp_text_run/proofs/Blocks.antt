@@ -42,5 +42,5 @@ pub of_line :
     start ≡ line.start → items ≡ line.items → failing ≡ line.failing → IsCourse program start items params failing line.budget course → RunsLine program params line course
 of_line program start items params failing line course s i f h =
     subst (λ x. IsCourse program x line.items params line.failing line.budget course) s
-        (subst (λ x. IsCourse program start x params line.failing line.budget course) i
-            (subst (λ x. IsCourse program start items params x line.budget course) f h))
+    (subst (λ x. IsCourse program start x params line.failing line.budget course) i
+    (subst (λ x. IsCourse program start items params x line.budget course) f h))
