@@ -1,6 +1,7 @@
 mod Caused
 mod Few
 mod LinesTold
+mod Reporting
 mod Supported
 mod Tabled
 mod Telling

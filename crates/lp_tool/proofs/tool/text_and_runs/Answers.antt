@@ -5,7 +5,7 @@ use Rattle.lp_tool.proofs.LinesTold.{read_told}
 use Rattle.lp_tool.proofs.tool.text_and_runs.Goals as goal
 
 pub token_lines-requires : goal.token_lines-requires
-token_lines-requires c = (c.args.file.now.tables.items, c.requires.tables)
+token_lines-requires c = record { tables = (c.args.file.now.tables.items, c.requires.tables) }
 
 pub returns-in_err-text-clause-lines : goal.returns-in_err-text-clause-lines
 returns-in_err-text-clause-lines c =
