@@ -1,5 +1,5 @@
 -- Worked examples: parts that are shared out among the steps of another, and some that are not.
-use Rattle.std.proofs.Common.{◌≡◌, true, false, List, [], ◌∷◌, refl}
+use Rattle.std.proofs.Common.{◌≡◌, true, false, [], ◌∷◌, refl}
 use Rattle.lp_form.specs.Templates.{steps_of}
 use Rattle.lp_form.specs.Classes.{members_of}
 use Rattle.lp_form.specs.declared.part.Part.TheVariants as part

@@ -7,11 +7,10 @@ use Rattle.std.proofs.lemmas.Bool.{cases_Bool, cond-true, cond-false}
 use Rattle.std.proofs.lemmas.List.{length-map, take-map, drop-map}
 use Rattle.lp_form.specs.Templates.{steps_of}
 use Rattle.lp_tree.specs.declared.tree.Entry.{Entry}
-use Rattle.lp_tree.specs.declared.tree.Program.{Program}
-use Rattle.lp_program.specs.Trees.{Content, content, Forest, forest, forest_within, whole}
+use Rattle.lp_program.specs.Trees.{content, forest, forest_within, whole}
 use Rattle.lp_program.specs.Trees.Forest.{bare, tree}
 use Rattle.lp_laws.specs.TemplateTests.{has_code}
-use Rattle.lp_laws.specs.AsRead.{code_read, content_read, forest_read, IsRead}
+use Rattle.lp_laws.specs.AsRead.{code_read, content_read, forest_read}
 use Rattle.lp_repr.specs.NormalCode.{or_unit, norm_of}
 use Rattle.lp_write.specs.Lines.{blanks}
 use Rattle.lp_laws.specs.Laws.{EachIsRead, SameToNorm}

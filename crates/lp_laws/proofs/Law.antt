@@ -1,9 +1,9 @@
 -- The printed text of a program reads as it.
-use Rattle.std.proofs.Common.{◌≡◌, ℕ, ◌+◌, ◌-◌, ◌==◌, ◌<◌, ◌≤◌, zero, suc, Bool, true, false, not, cond, ◌&&◌, ◌||◌, if◌then◌else◌, List, [], ◌∷◌, ◌++◌, length, get_or, take, drop, replicate, codes, All, refl, sym, ap, ◌∙◌, subst, arith, eqb, inl, inr, ⊎_elim, append_assoc, append-nil, length-append}
+use Rattle.std.proofs.Common.{◌≡◌, ℕ, ◌+◌, ◌-◌, ◌==◌, ◌<◌, ◌≤◌, zero, suc, Bool, true, false, not, cond, ◌&&◌, ◌||◌, if◌then◌else◌, List, [], ◌∷◌, ◌++◌, length, get_or, take, drop, replicate, codes, All, refl, sym, ap, ◌∙◌, subst, arith, eqb, inl, inr, ⊎_elim, append_assoc, append-nil, length-append, ◌^◌}
 use Rattle.std.specs.List.{list_all, list_any, ends_with}
 use Rattle.std.specs.Str.{IsUtf8, chars, bytes_eq}
 use Rattle.std.proofs.lemmas.Bool.{and_parts, cases_Bool, cond-true, cond-false, ltb-true, both_ways}
-use Rattle.std.proofs.lemmas.List.{take_at, drop_at}
+use Rattle.std.proofs.lemmas.List.{take_at, drop_at, length-map}
 use Rattle.std.proofs.lemmas.List.Elements.{All-head}
 use Rattle.std.proofs.lemmas.Str.{chars-append}
 use Rattle.lp_form.specs.Templates.{steps_of, holes_of}
@@ -23,7 +23,7 @@ use Rattle.lp_program.specs.OwnLines.{hole, code_lines}
 use Rattle.lp_program.specs.Printed.{step_lines, printed}
 use Rattle.lp_program.specs.Reads.{parts_in, hole_count, KindsFill, Reads, trees, steps, is_prefix, IsProgram}
 use Rattle.lp_program.specs.Reads.Reads.{no_tree, no_step, one_step}
-use Rattle.lp_program.specs.Trees.{Content, Forest, tree_count, whole}
+use Rattle.lp_program.specs.Trees.{Content, Forest, content, forest, forest_within, note, tree_count, whole}
 use Rattle.lp_program.specs.Trees.Forest.{bare, tree}
 use Rattle.lp_tree.specs.declared.tree.Entry.{Entry}
 use Rattle.lp_texts.specs.Identifiers.{is_identifier, is_word}
@@ -198,14 +198,14 @@ code_part_ok options prefix c below p h =
     }
 
 -- any other part
-plain_part_ok : (options : Options) (prefix : List ℕ) (c : Content) (below : Forest) → IsPrefix prefix → IsWellPart prefix c (parts_in below) → Each options prefix below → has_code (steps_of c.part) ≡ false →
+plain_part_ok : (options : Options) (prefix : List ℕ) (c : Content) (below : Forest) → length c.notes < 2 ^ 64 → IsPrefix prefix → IsWellPart prefix c (parts_in below) → Each options prefix below → has_code (steps_of c.part) ≡ false →
     TreeOk options prefix c below
-plain_part_ok options prefix c below is_prefix p each h =
+plain_part_ok options prefix c below few is_prefix p each h =
     let w : Bool = options.whitespace in
     let same : content_read w c ≡ c = cond-false (has_code (steps_of c.part)) _ _ h in
     let sound : are_sound false (holes_of c.part) (steps_of c.part) ≡ true =
     sym (cond-false (has_code (steps_of c.part)) (is_code_only (steps_of c.part)) (are_sound false (holes_of c.part) (steps_of c.part)) h) ∙ templates_sound c.part in
-    let texts : Texts prefix c (holes_of c.part) = record { prefix_is = is_prefix; fills = p.fills; notes = p.notes; few = p.few } in
+    let texts : Texts prefix c (holes_of c.part) = record { prefix_is = is_prefix; fills = p.fills; notes = p.notes; few = few } in
     let total : tree_count below ≡ 0 + tree_count below = omega arith in
     record {
       tree_reads = λ i text tail l e at.
@@ -219,15 +219,38 @@ plain_part_ok options prefix c below is_prefix p each h =
       kinds = subst (λ x. KindsFill prefix x.part x.holes) (sym same) (λ k lt. (p.fills k lt).0);
     }
 
-pub each_well : (options : Options) (prefix : List ℕ) (f : Forest) → IsPrefix prefix → IsWell prefix f → Each options prefix f
-each_well options prefix bare p w = tt
-each_well options prefix (tree c below after) p w =
-    let inner = each_well options prefix below p w.1 in
+-- no list has more notes than 64 bits count
+abbrev Few : Forest → Type 0
+Few bare = Unit {0}
+Few (tree c below after) = (length c.notes < 2 ^ 64) × Few below × Few after
+
+entry_few : (e : Entry) → length (content e).notes < 2 ^ 64
+entry_few e =
+    let size : length (content e).notes ≡ length e.notes.items = length-map e.notes.items note in
+    let known = e.notes.ok in
+    let fits = e.notes.small in
+    omega (arith, size, known, fits)
+
+few_within : (n : ℕ) (es : List Entry) → Few (forest_within n es)
+unfolding forest_within
+few_within zero es = tt
+few_within (suc n) [] = tt
+few_within (suc n) (e ∷ es) = (entry_few e, few_within n (take e.below es), few_within n (drop e.below es))
+
+few_whole : (es : List Entry) → Few (whole es)
+unfolding forest
+few_whole [] = tt
+few_whole (e ∷ es) = (entry_few e, few_within (length es) es, tt)
+
+pub each_well : (options : Options) (prefix : List ℕ) (f : Forest) → Few f → IsPrefix prefix → IsWell prefix f → Each options prefix f
+each_well options prefix bare few p w = tt
+each_well options prefix (tree c below after) few p w =
+    let inner = each_well options prefix below few.1 p w.1 in
     let ok : TreeOk options prefix c below = elim (cases_Bool (has_code (steps_of c.part))) [
       | inl y ↦ code_part_ok options prefix c below w.0 y
-      | inr n ↦ plain_part_ok options prefix c below p w.0 inner n
+      | inr n ↦ plain_part_ok options prefix c below few.0 p w.0 inner n
     ] in
-    (ok, each_well options prefix after p w.2)
+    (ok, each_well options prefix after few.2 p w.2)
 
 -- a prefix
 prefix_is : (prefix : List ℕ) → is_prefix prefix ≡ true → IsUtf8 prefix → IsPrefix prefix
@@ -260,7 +283,7 @@ reads_back options program read level well alike =
     let w : Bool = options.whitespace in
     let is : IsPrefix prefix = prefix_is prefix well.prefix_fits well.prefix_utf8 in
     let text : List ℕ = text_of options program in
-    let r = trees_read options prefix f 0 text [] (each_well options prefix f is well.trees) level (ap settled (sym (append-nil text))) (λ a. absurd (no_code_on_top program.entries.items well.first a)) in
+    let r = trees_read options prefix f 0 text [] (each_well options prefix f (few_whole program.entries.items) is well.trees) level (ap settled (sym (append-nil text))) (λ a. absurd (no_code_on_top program.entries.items well.first a)) in
     record {
       rest = r.rest;
       prefix_fits = ap is_prefix alike.prefix ∙ well.prefix_fits;

@@ -1,12 +1,12 @@
 -- Where user code stands, step by step.
-use Rattle.std.proofs.Common.{◌≡◌, ℕ, ◌+◌, ◌==◌, zero, suc, Bool, true, false, not, ◌&&◌, ◌||◌, List, [], ◌∷◌, ◌++◌, take, drop, codes, refl, sym, ap, ◌∙◌, subst, arith, inl, inr, ⊎_elim}
+use Rattle.std.proofs.Common.{◌≡◌, ℕ, ◌==◌, zero, suc, Bool, true, false, not, ◌&&◌, ◌||◌, List, [], ◌∷◌, take, drop, codes, refl, sym, ap, ◌∙◌, ⊎_elim}
 use Rattle.std.proofs.lemmas.Bool.{and_parts, or_cases, eqb-true, not-true, both_ways}
 use Rattle.lp_form.specs.Templates.{steps_of}
 use Rattle.lp_form.specs.Templates as template
-use Rattle.lp_write.specs.Lines.{Line, blanks, lowered, indent_after_all}
+use Rattle.lp_write.specs.Lines.{blanks, lowered, indent_after_all}
 use Rattle.lp_write.specs.declared.rust.Options.{Options}
 use Rattle.lp_program.specs.OwnLines.{own_lines}
-use Rattle.lp_program.specs.Printed.{Printed, taken, all_lines, step_lines, printed}
+use Rattle.lp_program.specs.Printed.{Printed, taken, all_lines, printed}
 use Rattle.lp_program.specs.Reads.{parts_in}
 use Rattle.lp_program.specs.Trees.{Content, Forest, tree_count}
 use Rattle.lp_program.specs.Trees.Forest.{bare, tree}
@@ -78,15 +78,15 @@ class_passes options prefix c total i s others f y h =
     let later : Forest = behind n f in
     let whole : (taken_pass i (printed options prefix now) (tests_of options prefix now)
     && steps_pass options prefix c total others (indent_after_all i (all_lines (printed options prefix now))) (printed options prefix later) (tests_of options prefix later)) ≡ true =
-        sym (
-          ap (λ o. taken_pass (indent_after_all i o) (take (taken s.0 ps) ps) (take (taken s.0 ps) qs)
-          && steps_pass options prefix c total others (indent_after_all (indent_after_all i o) (all_lines (take (taken s.0 ps) ps))) (drop (taken s.0 ps) ps) (drop (taken s.0 ps) qs)) (class_own options prefix c total s.1 s.0 y)
-          ∙ ap (λ k. taken_pass i (take k ps) (take k qs) && steps_pass options prefix c total others (indent_after_all i (all_lines (take k ps))) (drop k ps) (drop k qs)) (taken_parts options prefix s.0 f)
-          ∙ ap (λ x. taken_pass i x (take n qs) && steps_pass options prefix c total others (indent_after_all i (all_lines x)) (drop n ps) (drop n qs)) (printed_front options prefix n f)
-          ∙ ap (λ x. taken_pass i (printed options prefix now) x && steps_pass options prefix c total others (indent_after_all i (all_lines (printed options prefix now))) (drop n ps) (drop n qs)) (tests_front options prefix n f)
-          ∙ ap (λ x. taken_pass i (printed options prefix now) (tests_of options prefix now) && steps_pass options prefix c total others (indent_after_all i (all_lines (printed options prefix now))) x (drop n qs)) (printed_behind options prefix n f)
-          ∙ ap (λ x. taken_pass i (printed options prefix now) (tests_of options prefix now) && steps_pass options prefix c total others (indent_after_all i (all_lines (printed options prefix now))) (printed options prefix later) x) (tests_behind options prefix n f)
-        ) ∙ h in
+    sym (
+    ap (λ o. taken_pass (indent_after_all i o) (take (taken s.0 ps) ps) (take (taken s.0 ps) qs)
+    && steps_pass options prefix c total others (indent_after_all (indent_after_all i o) (all_lines (take (taken s.0 ps) ps))) (drop (taken s.0 ps) ps) (drop (taken s.0 ps) qs)) (class_own options prefix c total s.1 s.0 y)
+    ∙ ap (λ k. taken_pass i (take k ps) (take k qs) && steps_pass options prefix c total others (indent_after_all i (all_lines (take k ps))) (drop k ps) (drop k qs)) (taken_parts options prefix s.0 f)
+    ∙ ap (λ x. taken_pass i x (take n qs) && steps_pass options prefix c total others (indent_after_all i (all_lines x)) (drop n ps) (drop n qs)) (printed_front options prefix n f)
+    ∙ ap (λ x. taken_pass i (printed options prefix now) x && steps_pass options prefix c total others (indent_after_all i (all_lines (printed options prefix now))) (drop n ps) (drop n qs)) (tests_front options prefix n f)
+    ∙ ap (λ x. taken_pass i (printed options prefix now) (tests_of options prefix now) && steps_pass options prefix c total others (indent_after_all i (all_lines (printed options prefix now))) x (drop n qs)) (printed_behind options prefix n f)
+    ∙ ap (λ x. taken_pass i (printed options prefix now) (tests_of options prefix now) && steps_pass options prefix c total others (indent_after_all i (all_lines (printed options prefix now))) (printed options prefix later) x) (tests_behind options prefix n f)
+    ) ∙ h in
     let q = and_parts (taken_pass i (printed options prefix now) (tests_of options prefix now)) (steps_pass options prefix c total others (indent_after_all i (all_lines (printed options prefix now))) (printed options prefix later) (tests_of options prefix later)) whole in
     record {
       level = taken_level options prefix i now q.0;

@@ -1,5 +1,5 @@
 -- What is printed is read, part by part.
-use Rattle.std.proofs.Common.{◌≡◌, ℕ, ◌+◌, zero, suc, Bool, true, false, not, ◌&&◌, List, [], ◌∷◌, ◌++◌, length, take, drop, codes, All, refl, sym, ap, ◌∙◌, subst, arith, inl, inr, ⊎_elim, append-nil}
+use Rattle.std.proofs.Common.{◌≡◌, ℕ, ◌+◌, zero, suc, Bool, true, false, not, ◌&&◌, List, [], ◌∷◌, ◌++◌, length, take, drop, All, refl, sym, ap, ◌∙◌, subst, arith, inl, inr, ⊎_elim, append-nil}
 use Rattle.std.specs.List.{list_all}
 use Rattle.std.proofs.lemmas.Bool.{and_parts, or_cases, or_left, or_right, cases_Bool, cond-true, cond-false, not-true, both_ways}
 use Rattle.std.proofs.lemmas.List.Elements.{All-head, All-tail}
@@ -8,7 +8,7 @@ use Rattle.lp_form.specs.Templates as template
 use Rattle.lp_form.specs.declared.part.Part.{Part}
 use Rattle.lp_form.specs.declared.part.Part.TheVariants as part
 use Rattle.lp_form.specs.declared.template.Kind.{Kind}
-use Rattle.lp_write.specs.Lines.{Line, blanks, lowered, lines_bytes, indent_after_all}
+use Rattle.lp_write.specs.Lines.{Line, blanks, lines_bytes, indent_after_all}
 use Rattle.lp_write.specs.declared.rust.Options.{Options}
 use Rattle.lp_spelling.specs.Counting.{settled}
 use Rattle.lp_program.specs.OwnLines.{own_lines}
@@ -24,7 +24,7 @@ use Rattle.lp_laws.specs.Levels.{trees_pass, steps_pass, tests_of}
 use Rattle.lp_laws.proofs.Bytes.{bytes-split}
 use Rattle.lp_laws.proofs.Forests.{front, behind, graft_split, count_split, parts_front, parts_behind, printed_front, printed_behind, taken_parts, taken_belong, none_taken, no_trees, no_count, length-parts}
 use Rattle.lp_laws.proofs.Own.{Ready, ready_same, ready_as, Texts, own_read}
-use Rattle.lp_laws.proofs.Leveling.{plain_pass, ClassPasses, class_passes, blanks_at, blanks_closing}
+use Rattle.lp_laws.proofs.Leveling.{plain_pass, class_passes, blanks_at, blanks_closing}
 use Rattle.lp_laws.proofs.Steps.{not_taken, class_own, class_takes, class_after, class_sound, one_part, any_code, code_belongs, no_class_none, Closing, closing_line, ends_table}
 
 -- the trees as they are read

@@ -1,5 +1,5 @@
 -- Programs that are well formed: their parts stand below one another as the templates say, and their texts are valid.
-use Rattle.std.specs.Prelude.{◌≡◌, ℕ, ◌^◌, ◌<◌, Bool, true, false, ◌&&◌, ◌==◌, if◌then◌else◌, min, List, [], ◌∷◌, ◌++◌, length, get_or, take, drop, replicate, codes, All, FitsSigned}
+use Rattle.std.specs.Prelude.{◌≡◌, ℕ, ◌<◌, Bool, true, false, ◌&&◌, ◌==◌, if◌then◌else◌, min, List, [], ◌∷◌, ◌++◌, length, get_or, take, drop, replicate, codes, All, FitsSigned}
 use Rattle.std.specs.Int.{w32}
 use Rattle.std.specs.List.{prefix_len}
 use Rattle.std.specs.Str.{IsUtf8, chars}
@@ -76,7 +76,6 @@ pub record IsWellPart (prefix : List ℕ) (c : Content) (below : List Part) : Ty
   pub shared : is_shared (steps_of c.part) below ≡ true
   pub steps : All (λ s. StepFits c s.0) (steps_of c.part)
   pub notes : All IsNote c.notes
-  pub few : length c.notes < 2 ^ 64
 
 -- trees side by side
 abbrev pub IsWell : List ℕ → Forest → Type 0
