@@ -1,7 +1,8 @@
 //! A grammar file, from its source to its grammar and states.
 
-ghost use Rattle.std.specs.Prelude.{◌≡◌, ℕ, List, Some, IfOk, IfErr};
-ghost use Rattle.lp_plain.specs.Front.{IsFileFault, IsFront, IsFrontFault, LowersTo, StopsReading, Untabled};
+ghost use Rattle.std.specs.Prelude.{IfOk, IfErr};
+ghost use Rattle.lp_plain.specs.Front.{IsFileFault, IsFront, IsFrontFault, IsTextFault, LowersTo, OfSource, StopsReading, Unlowered, Unspelled, Untabled};
+ghost use Rattle.lp_reading.specs.Bytes.{IsPlainOf};
 
 use crate::file::{Front, FrontFault};
 use crate::input::{ReadError, read_all};
@@ -17,7 +18,7 @@ use std::alloc::Global;
 /// Reads a source to its end, and gives the grammar that the text before the line `%%` spells, its
 /// lowering, the states of each start, and what follows that line.
 pub fn front<S: Source>(alloc: Global, source: &mut S) -> Result<Front, FrontFault>
-    ensures front { IfOk result (λ f. (bytes : List ℕ) → S.left source.old ≡ Some bytes → IsFront bytes f) }
+    ensures front { IfOk result (λ f. OfSource (S.left source.old) (λ bytes. IsFront bytes f)) }
     ensures fault { IfErr result (IsFrontFault (S.left source.old) (S.faults source.old) (S.faults source.new)) }
 {
     match read_all(alloc, source) {
@@ -40,13 +41,12 @@ fn unread(error: ReadError) -> FrontFault
 /// What the bytes of a file give.
 fn front_of(alloc: Global, bytes: &[u8]) -> Result<Front, FrontFault>
     ensures front { IfOk result (IsFront bytes.now) }
-    ensures fault { IfErr result IsFileFault }
+    ensures fault { IfErr result (IsFileFault bytes.now) }
 {
     let (text, tail) = cut_file(bytes);
     let (plain, grammar) = match lowered_of(alloc, text) {
         Ok(both) => both,
-        Err(BytesFault::Grammar { place }) => return Err(FrontFault::Grammar { place }),
-        Err(BytesFault::Memory) => return Err(FrontFault::Memory),
+        Err(fault) => return Err(unspelled(fault)),
     };
     let tables = match tables_of(alloc, &grammar) {
         Ok(tables) => tables,
@@ -64,7 +64,9 @@ fn front_of(alloc: Global, bytes: &[u8]) -> Result<Front, FrontFault>
 /// The plain grammar that bytes spell, and its lowering. The place of a fault is that of the first
 /// byte of no character, of the error of reading, or of the refusal.
 pub fn lowered_of(alloc: Global, bytes: &[u8]) -> Result<(PlainGrammar, Grammar), BytesFault>
-    ensures { IfOk result (λ both. LowersTo both.0 both.1) }
+    ensures lowered { IfOk result (λ both. LowersTo both.0 both.1) }
+    ensures spelled { IfOk result (λ both. IsPlainOf bytes.now both.0) }
+    ensures fault { IfErr result (IsTextFault bytes.now) }
 {
     let plain = plain_of(alloc, bytes)?;
     match lower(alloc, &plain) {
@@ -74,13 +76,25 @@ pub fn lowered_of(alloc: Global, bytes: &[u8]) -> Result<(PlainGrammar, Grammar)
 }
 
 /// The fault of a grammar whose lowering is refused.
-fn unlowered(fault: LowerFault) -> BytesFault {
+fn unlowered(fault: LowerFault) -> BytesFault
+    ensures { Unlowered fault result }
+{
     match fault {
         LowerFault::UnknownName { place }
         | LowerFault::InlineOrder { place }
         | LowerFault::Duplicate { place }
         | LowerFault::TooManyProductions { place } => BytesFault::Grammar { place },
         LowerFault::Memory => BytesFault::Memory,
+    }
+}
+
+/// The fault of a text that gives no grammar.
+fn unspelled(fault: BytesFault) -> FrontFault
+    ensures { Unspelled fault result }
+{
+    match fault {
+        BytesFault::Grammar { place } => FrontFault::Grammar { place },
+        BytesFault::Memory => FrontFault::Memory,
     }
 }
 
