@@ -10,7 +10,7 @@ use lp_codegen::{emit_action_code, intern_token};
 use lp_emit::build_program;
 use lp_program::print_program;
 use lp_stored::changes::Example;
-use lp_stored::writers::{Answer, answer, options_of, sink_of};
+use lp_stored::writers::{Answer, answer_by, options_of, sink_of};
 use lp_write::{MemorySink, RustWrite, WriteError};
 use std::alloc::{AllocError, Global};
 
@@ -21,7 +21,7 @@ pub fn answer_of(alloc: Global, words: &str, example: &Example) -> Result<Answer
         Ok(()) => String::from_str(alloc, "ok")?,
         Err(error) => error.to_string(alloc)?,
     };
-    answer(alloc, end.as_str(), out.into_inner())
+    answer_by(alloc, end.as_str(), out.into_inner())
 }
 
 /// Prints what the call says.

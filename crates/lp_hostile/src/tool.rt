@@ -2,7 +2,7 @@
 
 use lp_repr::Text;
 use lp_stored::cases::number;
-use lp_stored::writers::{Answer, answer, sink_of, value};
+use lp_stored::writers::{Answer, answer_by, sink_of, value};
 use lp_tool::{Report, Status, run_tool, status_line};
 use lp_write::{MemorySink, MemorySource};
 use std::alloc::{AllocError, Global};
@@ -33,7 +33,7 @@ pub fn run_words(alloc: Global, words: &str, file: &[u8]) -> Result<Answer, Allo
     };
     let (report, sink) = called(alloc, words, file, &reads)?;
     let end = told(alloc, &report.status)?;
-    answer(alloc, end.as_str(), sink)
+    answer_by(alloc, end.as_str(), sink)
 }
 
 /// The status, with the place of a refused grammar.

@@ -1,7 +1,7 @@
 //! The emission of all parsers.
 
 use crate::changes::Example;
-use crate::writers::{Answer, answer, options_of, sink_of};
+use crate::writers::{Answer, answer_by, options_of, sink_of};
 use lp_emit::{EmitError, emit_parsers};
 use std::alloc::{AllocError, Global};
 
@@ -14,7 +14,7 @@ pub fn emitted(alloc: Global, words: &str, example: &Example) -> Result<Answer, 
         Ok(()) => String::from_str(alloc, "ok")?,
         Err(error) => told(alloc, &error)?,
     };
-    answer(alloc, end.as_str(), sink)
+    answer_by(alloc, end.as_str(), sink)
 }
 
 /// The text of all parsers.
@@ -23,7 +23,7 @@ pub fn text_of(alloc: Global, words: &str, example: &Example) -> Result<String, 
     let options = options_of(words);
     let tables = example.tables.as_slice();
     let _answer = emit_parsers(alloc, &example.grammar, tables, &options, &mut sink);
-    Ok(answer(alloc, "", sink)?.output)
+    Ok(answer_by(alloc, "", sink)?.output)
 }
 
 /// A refusal with what it tells.

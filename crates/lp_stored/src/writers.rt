@@ -31,7 +31,7 @@ impl Answer {
 }
 
 /// The answer of this end, with what a sink took.
-pub fn answer(alloc: Global, end: &str, sink: MemorySink) -> Result<Answer, AllocError> {
+pub fn answer_by(alloc: Global, end: &str, sink: MemorySink) -> Result<Answer, AllocError> {
     Ok(Answer {
         end: String::from_str(alloc, end)?,
         output: String::from_utf8_lossy(alloc, sink.into_bytes().as_slice())?,
