@@ -2,7 +2,6 @@
 //! line `== NAME` and the line of its words. Then stand its parts, each behind a line `-- PART`:
 //!
 //! - `file`: the source's text;
-//! - `old`, `new`: what is changed in the printed text, and what stands there then;
 //! - `answers`: the answer, as `answers` puts it;
 //! - `begins`: the lines with which the output begins;
 //! - `writes`: lines that stand in the output one after another.
@@ -16,9 +15,6 @@ pub struct Case<'t> {
     /// The words, with blanks between.
     pub words: &'t str,
     pub file: &'t str,
-    /// What is changed in the printed text; empty where nothing is.
-    pub old: &'t str,
-    pub new: &'t str,
     pub wants: Vec<Want<'t>>,
 }
 
@@ -47,18 +43,16 @@ fn read_case(alloc: Global, call: &str) -> Result<Case<'_>, AllocError> {
     Ok(Case {
         name,
         words,
-        file: part_of(parts, "file"),
-        old: part_of(parts, "old"),
-        new: part_of(parts, "new"),
+        file: file_of(parts),
         wants: wants_of(alloc, parts)?,
     })
 }
 
-/// The first part of a name; the empty text where there is none.
-fn part_of<'t>(parts: &'t str, name: &str) -> &'t str {
+/// The source's text; the empty text where there is none.
+fn file_of(parts: &str) -> &str {
     for part in parts.split("\n-- ") {
         let (kind, content) = first_line(part);
-        if kind == name {
+        if kind == "file" {
             return content;
         }
     }
@@ -70,7 +64,7 @@ fn wants_of<'t>(alloc: Global, parts: &'t str) -> Result<Vec<Want<'t>>, AllocErr
     let mut wants = Vec::new(alloc);
     for part in parts.split("\n-- ") {
         let (kind, content) = first_line(part);
-        if !matches!(kind, "file" | "old" | "new") {
+        if kind != "file" {
             wants.push(wanted(kind, content))?;
         }
     }
