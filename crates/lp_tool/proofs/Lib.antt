@@ -1,8 +1,3 @@
-mod Caused
-mod Few
+mod Blocks
 mod LinesTold
-mod Reporting
-mod Supported
-mod Tabled
 mod Telling
-mod TextTold

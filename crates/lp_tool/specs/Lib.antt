@@ -4,4 +4,3 @@ pub mod Status
 pub mod Outputs
 pub mod Told
 pub mod LinesTold
-pub mod TextTold
