@@ -1,6 +1,6 @@
 //! Broken grammar files, each with the place of its refusal.
 
-use lp_plain::{BytesFault, PlainError, lowered_of, parse_grammar, place_of};
+use lp_plain::{PlainError, parse_grammar, place_of};
 use std::alloc::{AllocError, Global};
 use std::test::Fail;
 
@@ -21,15 +21,6 @@ pub(crate) fn file(alloc: Global, rules: &str) -> Result<String, AllocError> {
     )?;
     text.push_str(rules)?;
     Ok(text)
-}
-
-/// The place of the refusal of a text; none where it is lowered.
-fn refusal_place(alloc: Global, text: &str) -> Option<usize> {
-    match lowered_of(alloc, text.as_bytes()) {
-        Ok(_) => None,
-        Err(BytesFault::Memory) => Some(usize::MAX),
-        Err(BytesFault::Grammar { place }) => Some(place),
-    }
 }
 
 /// How a rule's text is refused: after how many bytes of it, or not at all.
@@ -161,75 +152,6 @@ fn broken_externs(rt: HostRuntime) -> Result<(), Fail> {
             Some(want.saturating_add(9)),
             "at {block}"
         );
-    }
-    Ok(())
-}
-
-/// How the lowering of a rule's text is refused: after how many bytes of it, or not at all.
-fn unlowered_after(alloc: Global, rules: &str) -> Result<Option<usize>, AllocError> {
-    let text = file(alloc, rules)?;
-    let head = text.len().saturating_sub(rules.len());
-    match refusal_place(alloc, text.as_str()) {
-        None => Ok(None),
-        Some(place) => Ok(Some(place.saturating_sub(head))),
-    }
-}
-
-#[test]
-fn rules_that_are_not_lowered(rt: HostRuntime) -> Result<(), Fail> {
-    let alloc = rt.alloc();
-    let table = [
-        ("pub S: () = T => (); T: () = \"b\" => ();", None),
-        ("pub S: () = \"c\" => ();", Some(12)),
-        ("pub S: () = a => ();", Some(12)),
-        ("pub S: () = \"a\" <x:Y> => ();", Some(19)),
-        (
-            "#[inline] X: () = Z => (); #[inline] Z: () = \"a\" => ();",
-            Some(18),
-        ),
-        ("#[inline] X: () = X => ();", Some(18)),
-        ("S: () = \"a\" => (); pub S: () = \"b\" => ();", Some(23)),
-        (
-            "#[inline] X: () = Z => (); #[inline] Z: () = Y => ();",
-            Some(45),
-        ),
-        (
-            "S: () = \"a\" => (); S: () = \"b\" => (); #[inline] X: () = X => ();",
-            Some(56),
-        ),
-        (
-            "#[inline] X: () = { \"a\" => (), \"b\" => () }; S: () = X X X X X X X X X X X X X X X X X => ();",
-            Some(44),
-        ),
-    ];
-    for (rules, want) in table {
-        assert_eq!(rt; unlowered_after(alloc, rules)?, want, "at {rules}");
-    }
-    Ok(())
-}
-
-#[test]
-fn terminals_that_are_not_lowered(rt: HostRuntime) -> Result<(), Fail> {
-    let alloc = rt.alloc();
-    let table = [
-        ("extern { enum T { a => A, \"a\" => B } }", None),
-        ("extern { enum T { \"a\" => A, \"a\" => B } }", Some(28)),
-        ("extern { enum T { \"a\" => A, \"\\x61\" => B } }", Some(28)),
-        ("extern { enum T { a => A, b => B, a => C } }", Some(34)),
-        (
-            "extern { enum T { \"a\" => A(<u8>), b => A(_) } }",
-            Some(34),
-        ),
-        (
-            "S: () = ! => (); extern { enum T { b => B, c => B } }",
-            Some(43),
-        ),
-    ];
-    for (rules, want) in table {
-        let mut text = String::from_str(alloc, "grammar; ")?;
-        text.push_str(rules)?;
-        let want = want.map(|place: usize| place.saturating_add(9));
-        assert_eq!(rt; refusal_place(alloc, text.as_str()), want, "at {rules}");
     }
     Ok(())
 }
