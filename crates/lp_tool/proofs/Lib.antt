@@ -1,3 +1,8 @@
-mod Blocks
+mod Caused
+mod Few
 mod LinesTold
+mod Reporting
+mod Supported
+mod Tabled
 mod Telling
+mod TextTold

@@ -5,9 +5,10 @@ use Rattle.lp_emit.specs.Texts.{IsEmission}
 use Rattle.lp_emit.specs.declared.errors.EmitError.{EmitError}
 use Rattle.lp_emit.specs.declared.errors.EmitError.TheVariants as emit
 use Rattle.lp_plain.specs.Front.{LowersTo}
+use Rattle.lp_reading.specs.Bytes.{IsPlainOf}
 use Rattle.lp_repr.specs.declared.lr1.StartStates.{StartStates}
 use Rattle.lp_repr.specs.declared.repr.Grammar.{Grammar}
-use Rattle.lp_starts.specs.Tables.{AreTablesOf}
+use Rattle.lp_starts.specs.Tables.{AreTablesOf, AreValid}
 use Rattle.lp_starts.proofs.Refused.{not_valid}
 use Rattle.lp_syntax.specs.declared.plain.PlainGrammar.{PlainGrammar}
 use Rattle.lp_valid.specs.Refusals.{RefusesGrammar}
@@ -17,14 +18,17 @@ use Rattle.lp_write.specs.Sinks.{Told}
 use Rattle.lp_write.specs.declared.rust.Options.{Options}
 use Rattle.lp_tool.specs.Command.{looks}
 use Rattle.lp_tool.specs.Outputs.{IsReport, IsRunOutput, IsTailIn, first_count}
-use Rattle.lp_tool.specs.Causes.{IsOfFile, IsStop, Written}
-use Rattle.lp_tool.specs.Told.{AreTablesOrNone, Holds, IsEmitted, IsMade, IsPrepared, IsRefusal, IsRefused, Tells, TellsOf, ToldOf, Wrote}
+use Rattle.lp_tool.specs.Causes.{IsOfFile, IsOfWriting, IsStop, Written}
+use Rattle.lp_tool.specs.Told.{AreTablesOrNone, Holds, IsAnswered, IsEmitted, IsMade, IsOfLowered, IsPrepared, IsRefusal, IsRefused, Tells, TellsOf, ToldOf, Wrote}
 use Rattle.lp_tool.specs.declared.command.Command.{Command}
 use Rattle.lp_tool.specs.declared.command.Command.TheVariants as asked
 use Rattle.lp_tool.specs.declared.file.Stop.{Stop}
 use Rattle.lp_tool.specs.declared.status.Status.{Status}
 use Rattle.lp_tool.specs.declared.status.Status.TheVariants as status
 use Rattle.lp_tool.specs.declared.tool.Prepared.{Prepared}
+use Rattle.lp_tool.proofs.Few.{not_too_many}
+use Rattle.lp_tool.proofs.Supported.{never_unsupported}
+use Rattle.lp_tool.proofs.Tabled.{not_for_tables}
 
 -- a stop with the plain grammar
 pub told_with : (plain : PlainGrammar) (g : Grammar) (s : Status) (answered : Option PlainGrammar) → LowersTo plain g → ToldOf g s → IsOfFile s → Holds plain s answered → Tells answered s
@@ -34,7 +38,7 @@ told_with plain g (status.Grammar place) answered l t o h = tt
 told_with plain g (status.Conflict start path token) answered l t o h = (plain, g, h, l, t)
 told_with plain g (status.TooManyStates start paths) answered l t o h = (plain, g, h, l, t)
 told_with plain g (status.Refused error) answered l t o h = (plain, g, h, l, t)
-told_with plain g (status.TokenLine line) answered l t o h = tt
+told_with plain g (status.TokenLine line) answered l t o h = (plain, g, h, l, t)
 told_with plain g status.TooLong answered l t o h = tt
 told_with plain g status.ReadFault answered l t o h = tt
 told_with plain g status.WriteFault answered l t o h = absurd o
@@ -54,23 +58,65 @@ holds plain status.ReadFault n = refl
 holds plain status.WriteFault n = refl
 holds plain status.Memory n = absurd (n refl)
 
+-- a stop with the plain grammar answers it
+pub answered_with : (plain : PlainGrammar) (s : Status) → s ≢ status.Memory → IsOfLowered s → IsAnswered (Some plain) s
+answered_with plain status.Done n o = absurd o
+answered_with plain status.Usage n o = absurd o
+answered_with plain (status.Grammar place) n o = absurd o
+answered_with plain (status.Conflict start path token) n o = refl
+answered_with plain (status.TooManyStates start paths) n o = refl
+answered_with plain (status.Refused error) n o = refl
+answered_with plain (status.TokenLine line) n o = refl
+answered_with plain status.TooLong n o = absurd o
+answered_with plain status.ReadFault n o = absurd o
+answered_with plain status.WriteFault n o = absurd o
+answered_with plain status.Memory n o = absurd (n refl)
+
+-- a call that wrote answers it
+pub answered_written : (plain : PlainGrammar) (s : Status) → IsOfWriting s → IsAnswered (Some plain) s
+answered_written plain status.Done o = refl
+answered_written plain status.WriteFault o = refl
+answered_written plain status.Usage o = absurd o
+answered_written plain (status.Grammar place) o = absurd o
+answered_written plain (status.Conflict start path token) o = absurd o
+answered_written plain (status.TooManyStates start paths) o = absurd o
+answered_written plain (status.Refused error) o = absurd o
+answered_written plain (status.TokenLine line) o = absurd o
+answered_written plain status.TooLong o = absurd o
+answered_written plain status.ReadFault o = absurd o
+answered_written plain status.Memory o = absurd o
+
+-- and tells nothing of it
+pub told_written : (answered : Option PlainGrammar) (s : Status) → IsOfWriting s → Tells answered s
+told_written answered status.Done o = tt
+told_written answered status.WriteFault o = tt
+told_written answered status.Usage o = absurd o
+told_written answered (status.Grammar place) o = absurd o
+told_written answered (status.Conflict start path token) o = absurd o
+told_written answered (status.TooManyStates start paths) o = absurd o
+told_written answered (status.Refused error) o = absurd o
+told_written answered (status.TokenLine line) o = absurd o
+told_written answered status.TooLong o = absurd o
+told_written answered status.ReadFault o = absurd o
+told_written answered status.Memory o = absurd o
+
 -- an emission that is refused
-pub told_refused : (g : Grammar) (tables : List StartStates) (error : EmitError) (s : Status) → AreTablesOrNone g tables → Refuses g tables error → IsRefusal error s → ToldOf g s
-told_refused g tables emit.Memory s a r i = subst (ToldOf g) (sym i) tt
-told_refused g tables emit.NoStart s a r i = subst (ToldOf g) (sym i) (tables, a, r)
-told_refused g tables emit.Unsupported s a r i = subst (ToldOf g) (sym i) (tables, a, r)
-told_refused g tables (emit.BadGrammar rule place) s a r i = subst (ToldOf g) (sym i) (tables, a, r)
-told_refused g tables emit.RecoveryInAscent s a r i = subst (ToldOf g) (sym i) (tables, a, r)
-told_refused g tables (emit.NameClash first second) s a r i = subst (ToldOf g) (sym i) (tables, a, r)
-told_refused g tables (emit.TooMany count) s a r i = subst (ToldOf g) (sym i) (tables, a, r)
-told_refused g tables (emit.BadTables start state rule) s a r i = subst (ToldOf g) (sym i) (tables, a, r)
-told_refused g tables (emit.BadText place byte) s a r i = subst (ToldOf g) (sym i) (tables, a, r)
-told_refused g tables emit.WriteFault s a r i = absurd r
+pub told_refused : (text : List ℕ) (plain : PlainGrammar) (g : Grammar) (tables : List StartStates) (error : EmitError) (s : Status) → IsPlainOf text plain → LowersTo plain g → AreTablesOrNone g tables → Refuses g tables error → IsRefusal error s → ToldOf g s
+told_refused text plain g tables emit.Memory s p l a r i = subst (ToldOf g) (sym i) tt
+told_refused text plain g tables emit.NoStart s p l a r i = subst (ToldOf g) (sym i) (tables, a, r)
+told_refused text plain g tables emit.Unsupported s p l a r i = absurd (never_unsupported text plain g tables p l r)
+told_refused text plain g tables (emit.BadGrammar rule place) s p l a r i = subst (ToldOf g) (sym i) (tables, a, r)
+told_refused text plain g tables emit.RecoveryInAscent s p l a r i = subst (ToldOf g) (sym i) (tables, a, r)
+told_refused text plain g tables (emit.NameClash first second) s p l a r i = subst (ToldOf g) (sym i) (tables, a, r)
+told_refused text plain g tables (emit.TooMany count) s p l a r i = absurd (not_too_many plain g tables count l a r)
+told_refused text plain g tables (emit.BadTables start state rule) s p l a r i = absurd (not_for_tables g tables start state rule a r)
+told_refused text plain g tables (emit.BadText place byte) s p l a r i = subst (ToldOf g) (sym i) (tables, a, r)
+told_refused text plain g tables emit.WriteFault s p l a r i = absurd r
 
 -- a grammar that may be emitted has its tables
 pub emitted : (g : Grammar) (tables : List StartStates) → AreTablesOrNone g tables → MayBeEmitted g tables → IsEmitted g tables
 emitted g tables a m = ⊎_elim
-    (λ (t : AreTablesOf g tables). (t, m))
+    (λ (t : AreTablesOf g tables × AreValid g tables). (t.0, m))
     (λ (t : (tables ≡ []) × ((rule : ℕ) × (place : ℕ) × RefusesGrammar g (Rule rule place))). absurd (not_valid g t.1.0 t.1.1 t.1.2 m.buildable.sound.1))
     a
 
@@ -81,13 +127,13 @@ made_emit options left plain g tables text_len output l a m e n = (g, l, emitted
 pub made_run : (options : Options) (left : Option (List ℕ)) (plain : PlainGrammar) (g : Grammar) (tables : List StartStates) (tail : List ℕ) (text_len : ℕ) (output : List ℕ) → LowersTo plain g → AreTablesOrNone g tables → MayBeEmitted g tables → IsTailIn left tail → IsRunOutput g tables options tail text_len output → IsMade (Some (asked.Run options)) left plain tables text_len output
 made_run options left plain g tables tail text_len output l a m t r = (g, l, emitted g tables a m, (tail, t, r))
 
-pub made_make : (levels : ℕ) (left : Option (List ℕ)) (plain : PlainGrammar) (g : Grammar) (tables : List StartStates) (text_len : ℕ) (output text : List ℕ) → LowersTo plain g → AreTablesOrNone g tables → MayBeEmitted g tables → IsEmission g tables (looks false true) text → text_len ≡ length text → IsReport (first_count tables) text_len output → IsMade (Some (asked.Make levels)) left plain tables text_len output
+pub made_make : (levels : ℕ) (left : Option (List ℕ)) (plain : PlainGrammar) (g : Grammar) (tables : List StartStates) (text_len : ℕ) (output text : List ℕ) → LowersTo plain g → AreTablesOrNone g tables → MayBeEmitted g tables → IsEmission g tables (looks false true) text → text_len ≡ length text → IsReport text (first_count tables) text_len output → IsMade (Some (asked.Make levels)) left plain tables text_len output
 made_make levels left plain g tables text_len output text l a m e n r = (g, l, emitted g tables a m, (text, e, n, r))
 
 -- what is told of a text and its tables, by their sizes
-pub report_of : (states states' text_len text_len' : ℕ) (output output' : List ℕ) → states ≡ states' → text_len ≡ text_len' → output ≡ output' → IsReport states text_len output → IsReport states' text_len' output'
-report_of states states' text_len text_len' output output' s t o r =
-    subst (IsReport states' text_len') o (subst (λ n. IsReport states' n output) t (subst (λ n. IsReport n text_len output) s r))
+pub report_of : (text : List ℕ) (states states' text_len text_len' : ℕ) (output output' : List ℕ) → states ≡ states' → text_len ≡ text_len' → output ≡ output' → IsReport text states text_len output → IsReport text states' text_len' output'
+report_of text states states' text_len text_len' output output' s t o r =
+    subst (IsReport text states' text_len') o (subst (λ n. IsReport text states' n output) t (subst (λ n. IsReport text n text_len output) s r))
 
 some_same : (a b : List ℕ) → Some a ≡ Some b → a ≡ b
 some_same a b p = ap (λ (o : Option (List ℕ)). unwrap_or o a) p

@@ -4,3 +4,4 @@ pub mod Status
 pub mod Outputs
 pub mod Told
 pub mod LinesTold
+pub mod TextTold

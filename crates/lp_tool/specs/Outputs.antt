@@ -1,47 +1,37 @@
 -- What a command writes.
-use Rattle.std.specs.Prelude.{◌≡◌, ℕ, zero, suc, ◌+◌, true, false, List, [], ◌∷◌, ◌++◌, length, map, slice_get, Option, Some, None, IfSome, codes, decimal}
+use Rattle.std.specs.Prelude.{◌≡◌, ℕ, true, false, List, [], ◌∷◌, ◌++◌, length, map, Option, Some, None, codes, decimal}
+use Rattle.lp_driver.specs.Values.{Text}
 use Rattle.lp_emit.specs.Texts.{IsEmission}
-use Rattle.lp_lines.specs.Blocks.{block_text, ending_text, line_text, steps_text}
+use Rattle.lp_lines.specs.Blocks.{ending_text, line_text, steps_text}
 use Rattle.lp_lines.specs.File.{IsCutFile}
 use Rattle.lp_lines.specs.Scan.{all_some}
 use Rattle.lp_lines.specs.TokenLines.{line_of, lines_of}
 use Rattle.lp_lines.specs.Vocabularies.{vocabulary_of}
 use Rattle.lp_lines.specs.declared.token_line.TokenLine.{TokenLine}
+use Rattle.lp_program.specs.Reads.{ReadsAs}
 use Rattle.lp_repr.specs.declared.lr1.StartStates.{StartStates}
 use Rattle.lp_repr.specs.declared.repr.Grammar.{Grammar}
 use Rattle.lp_repr.specs.declared.values.Event.{Event}
 use Rattle.lp_repr.specs.declared.values.Outcome.{Outcome}
+use Rattle.lp_repr.specs.declared.values.RunItem.{RunItem}
+use Rattle.lp_text_run.specs.Blocks.{AreRuns}
+use Rattle.lp_text_run.specs.Courses.{Course, IsCourse}
+use Rattle.lp_tree.specs.declared.tree.Program.{Program}
 use Rattle.lp_write.specs.declared.rust.Options.{Options}
 use Rattle.lp_tool.specs.Command.{looks}
 use Rattle.lp_tool.specs.declared.command.Command.{Command}
 use Rattle.lp_tool.specs.declared.command.Command.TheVariants.{Emit, Run, Make}
 
--- the course of a run: its calls of user code, its outcome, none where it is stuck, and its
--- steps
-pub record Course : Type 0 where
-  pub events : List Event
-  pub outcome : Option Outcome
-  pub steps : ℕ
-
--- the block of the line of this place
-abbrev pub block_of : ℕ → TokenLine → Course → List ℕ
-block_of place line course = block_text (place + 1) line.start course.events course.outcome (Some course.steps)
-
--- what stood before, and behind it the block of a line
-abbrev pub IsFollowed : Option TokenLine → ℕ → List ℕ → List ℕ → Type 0
-IsFollowed None place before text = ⊥
-IsFollowed (Some line) place before text = (course : Course) × (text ≡ before ++ block_of place line course)
-
--- the blocks of the first lines, so many
-abbrev pub AreBlocks : List TokenLine → ℕ → List ℕ → Type 0
-AreBlocks lines zero text = text ≡ []
-AreBlocks lines (suc place) text = (before : List ℕ) × AreBlocks lines place before × IsFollowed (slice_get lines place) place before text
+-- the value of each parameter: its name
+abbrev pub values_of : Grammar → List Text
+values_of g = map (λ p. p.name) g.parameters
 
 -- the token lines that a text is
 abbrev pub AreLinesOf : Grammar → List ℕ → List TokenLine → Type 0
 AreLinesOf g tail lines = all_some (map (line_of (vocabulary_of g)) (lines_of tail)) ≡ Some lines
 
--- the text of the parsers, of this length, the line `---`, and a block per token line
+-- the text of the parsers, of this length, the line `---`, and a block per token line, each of the run of the
+-- program that the text reads as
 pub record IsRunOutput (g : Grammar) (tables : List StartStates) (options : Options) (tail : List ℕ) (text_len : ℕ) (output : List ℕ) : Type 0 where
   pub text : List ℕ
   pub emission : IsEmission g tables options text
@@ -49,7 +39,7 @@ pub record IsRunOutput (g : Grammar) (tables : List StartStates) (options : Opti
   pub lines : List TokenLine
   pub read : AreLinesOf g tail lines
   pub blocks : List ℕ
-  pub told : AreBlocks lines (length lines) blocks
+  pub told : AreRuns text (values_of g) lines blocks
   pub whole : output ≡ text ++ (codes "---" ++ 10 ∷ blocks)
 
 -- the number of the states of the first start
@@ -70,10 +60,16 @@ course_text events outcome steps = calls_text events outcome ++ (line_text (endi
 abbrev pub size_text : ℕ → ℕ → List ℕ
 size_text states text_len = codes "states " ++ (decimal states ++ 10 ∷ (codes "text " ++ (decimal text_len ++ 10 ∷ [])))
 
--- what is told of a generated text: the number of its states, its length, and a run
-abbrev pub IsReport : ℕ → ℕ → List ℕ → Type 0
-IsReport states text_len output =
-    (course : Course) × (output ≡ size_text states text_len ++ course_text course.events course.outcome course.steps)
+-- the course of the run of a program from `E0` on the items that `make` hands in
+abbrev pub IsMadeCourse : Program → Course → Type 0
+IsMadeCourse program course = (items : List RunItem) × IsCourse program (codes "E0") items [] [] 1000000 course
+
+-- what is told of a generated text: the number of its states, its length, and the run of the program that it
+-- reads as
+abbrev pub IsReport : List ℕ → ℕ → ℕ → List ℕ → Type 0
+IsReport text states text_len output =
+    (program : Program) × (course : Course) × ReadsAs text program × IsMadeCourse program course
+    × (output ≡ size_text states text_len ++ course_text course.events course.outcome course.steps)
 
 -- a tail that follows the text of a file, where its bytes are told
 abbrev pub IsTailIn : Option (List ℕ) → List ℕ → Type 0
@@ -84,4 +80,4 @@ abbrev pub IsOutput : Command → Option (List ℕ) → Grammar → List StartSt
 IsOutput (Emit options) left g tables text_len output = IsEmission g tables options output × (text_len ≡ length output)
 IsOutput (Run options) left g tables text_len output = (tail : List ℕ) × IsTailIn left tail × IsRunOutput g tables options tail text_len output
 IsOutput (Make levels) left g tables text_len output =
-    (text : List ℕ) × IsEmission g tables (looks false true) text × (text_len ≡ length text) × IsReport (first_count tables) text_len output
+    (text : List ℕ) × IsEmission g tables (looks false true) text × (text_len ≡ length text) × IsReport text (first_count tables) text_len output

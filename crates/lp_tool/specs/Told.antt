@@ -1,13 +1,14 @@
 -- What the status of a call tells of the grammar of its file, and of what was written.
-use Rattle.std.specs.Prelude.{◌≡◌, ◌⊎◌, ℕ, List, [], Option, Some, None}
+use Rattle.std.specs.Prelude.{◌≡◌, ◌⊎◌, ℕ, List, [], Option, Some, None, IsSome}
 use Rattle.lp_emit.specs.Causes.{MayBeEmitted, Refuses}
 use Rattle.lp_emit.specs.declared.errors.EmitError.{EmitError}
 use Rattle.lp_emit.specs.declared.errors.EmitError.TheVariants as emit
 use Rattle.lp_lines.specs.File.{IsCutFile}
 use Rattle.lp_plain.specs.Front.{LowersTo}
+use Rattle.lp_reading.specs.Bytes.{IsPlainOf}
 use Rattle.lp_repr.specs.declared.lr1.StartStates.{StartStates}
 use Rattle.lp_repr.specs.declared.repr.Grammar.{Grammar}
-use Rattle.lp_starts.specs.Tables.{AreTablesOf, HasNoTables}
+use Rattle.lp_starts.specs.Tables.{AreTablesOf, AreValid, HasNoTables}
 use Rattle.lp_starts.specs.declared.tables.TablesFault.TheVariants as none
 use Rattle.lp_syntax.specs.declared.plain.PlainGrammar.{PlainGrammar}
 use Rattle.lp_valid.specs.Refusals.{RefusesGrammar}
@@ -17,22 +18,32 @@ use Rattle.lp_tool.specs.Outputs.{IsOutput}
 use Rattle.lp_tool.specs.declared.command.Command.{Command}
 use Rattle.lp_tool.specs.declared.file.File.{File}
 use Rattle.lp_tool.specs.declared.status.Status.{Status}
-use Rattle.lp_tool.specs.declared.status.Status.TheVariants.{Done, Conflict, TooManyStates, Refused, WriteFault, Memory}
+use Rattle.lp_tool.specs.declared.status.Status.TheVariants.{Done, Usage, Conflict, TooManyStates, Refused, TokenLine, TooLong, ReadFault, WriteFault, Memory}
+use Rattle.lp_tool.specs.declared.status.Status.TheVariants as outcome
 use Rattle.lp_tool.specs.declared.tool.Prepared.{Prepared}
 
--- the tables of a grammar, or none where it breaks a rule of valid grammars
+-- the tables of a grammar, which are valid, or none where it breaks a rule of valid grammars
 abbrev pub AreTablesOrNone : Grammar → List StartStates → Type 0
-AreTablesOrNone g tables = AreTablesOf g tables ⊎ ((tables ≡ []) × ((rule : ℕ) × (place : ℕ) × RefusesGrammar g (Rule rule place)))
+AreTablesOrNone g tables = (AreTablesOf g tables × AreValid g tables) ⊎ ((tables ≡ []) × ((rule : ℕ) × (place : ℕ) × RefusesGrammar g (Rule rule place)))
 
--- the bytes of a file give a plain grammar, what it is lowered to, the tables of that, and what
--- follows the text
+-- the grammar has them, or has none for that cause
+abbrev pub HasTables : Grammar → Type 0
+HasTables g = (tables : List StartStates) × AreTablesOrNone g tables
+
+-- the bytes of a file give a plain grammar, which its text spells, what it is lowered to, the tables of
+-- that, and what follows the text
 pub record IsFile (bytes : List ℕ) (f : File) : Type 0 where
   pub lowered : LowersTo f.plain f.lowered
   pub tables : AreTablesOrNone f.lowered f.tables.items
-  pub tail : (text : List ℕ) × IsCutFile bytes text f.tail.items
+  pub tail : (text : List ℕ) × IsCutFile bytes text f.tail.items × IsPlainOf text f.plain
 
--- its emission is refused
+-- its emission is refused, and never as unsupported, for its tables, for too many states or productions, or for want
+-- of memory, which is a status of its own
 abbrev pub IsRefused : Grammar → EmitError → Type 0
+IsRefused g (emit.BadTables start state rule) = ⊥
+IsRefused g (emit.TooMany count) = ⊥
+IsRefused g emit.Memory = ⊥
+IsRefused g emit.Unsupported = ⊥
 IsRefused g error = (tables : List StartStates) × AreTablesOrNone g tables × Refuses g tables error
 
 -- the status that tells of a refusal
@@ -46,6 +57,7 @@ abbrev pub ToldOf : Grammar → Status → Type 0
 ToldOf g (Conflict start path token) = HasNoTables g (none.Conflict start path token)
 ToldOf g (TooManyStates start paths) = HasNoTables g (none.TooManyStates start paths)
 ToldOf g (Refused error) = IsRefused g error
+ToldOf g (TokenLine line) = HasTables g
 ToldOf g status = Unit {0}
 
 -- the tables are those of the grammar, and it may be emitted with them
@@ -61,7 +73,26 @@ abbrev pub Tells : Option PlainGrammar → Status → Type 0
 Tells answered (Conflict start path token) = TellsOf answered (λ g. HasNoTables g (none.Conflict start path token))
 Tells answered (TooManyStates start paths) = TellsOf answered (λ g. HasNoTables g (none.TooManyStates start paths))
 Tells answered (Refused error) = TellsOf answered (λ g. IsRefused g error)
+Tells answered (TokenLine line) = TellsOf answered HasTables
 Tells answered status = Unit {0}
+
+-- a status of a grammar that was lowered, or of want of memory
+abbrev pub IsOfLowered : Status → Type 0
+IsOfLowered (Conflict start path token) = Unit {0}
+IsOfLowered (TooManyStates start paths) = Unit {0}
+IsOfLowered (Refused error) = Unit {0}
+IsOfLowered (TokenLine line) = Unit {0}
+IsOfLowered Memory = Unit {0}
+IsOfLowered other = ⊥
+
+-- a plain grammar is answered exactly under the statuses of one that was lowered and of a call that wrote
+abbrev pub IsAnswered : Option PlainGrammar → Status → Type 0
+IsAnswered answered Usage = answered ≡ None
+IsAnswered answered (outcome.Grammar place) = answered ≡ None
+IsAnswered answered TooLong = answered ≡ None
+IsAnswered answered ReadFault = answered ≡ None
+IsAnswered answered Memory = answered ≡ None
+IsAnswered answered other = IsSome answered
 
 -- the plain grammar is answered, but under want of memory
 abbrev pub Holds : PlainGrammar → Status → Option PlainGrammar → Type 0

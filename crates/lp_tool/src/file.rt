@@ -1,12 +1,13 @@
 //! From the bytes of a grammar file to its grammar and states.
 
 ghost use Rattle.std.specs.Prelude.{◌≡◌, ℕ, List, Option, None, Some, IfOk, IfErr};
-ghost use Rattle.lp_plain.specs.Front.{LowersTo};
+ghost use Rattle.lp_plain.specs.Front.{IsTextFault, LowersTo};
 ghost use Rattle.lp_repr.specs.declared.repr.Grammar.{Grammar};
 ghost use Rattle.lp_tool.specs.Causes.{IsOfFile};
-ghost use Rattle.lp_tool.specs.LinesTold.{IsOfNoLine, TellsLine, ToldOfLines};
+ghost use Rattle.lp_tool.specs.LinesTold.{IsBeforeLines, TellsRunLine, ToldOfLines};
 ghost use Rattle.lp_tool.specs.Outputs.{IsTailIn};
-ghost use Rattle.lp_tool.specs.Told.{AreTablesOrNone, Holds, IsFile, Tells, ToldOf};
+ghost use Rattle.lp_tool.specs.TextTold.{OfText, Spells, ToldOfText};
+ghost use Rattle.lp_tool.specs.Told.{AreTablesOrNone, Holds, IsAnswered, IsFile, IsOfLowered, Tells, ToldOf};
 
 use crate::status::Status;
 use lp_plain::{BytesFault, PlainGrammar, TablesFault, cut_file, lowered_of, tables_of};
@@ -50,8 +51,10 @@ impl Stop {
     pub fn with(status: Status, grammar: PlainGrammar) -> Stop
         ensures status { result.status ≡ status }
         ensures grammar { Holds grammar status result.grammar }
+        ensures answered { IsOfLowered status → IsAnswered result.grammar result.status }
         ensures told { (g : Grammar) → LowersTo grammar g → ToldOf g status → IsOfFile status → Tells result.grammar result.status }
-        ensures line { (g : Grammar) → (left : Option (List ℕ)) → (tail : List ℕ) → LowersTo grammar g → IsTailIn left tail → ToldOfLines g tail status → TellsLine left result.grammar result.status }
+        ensures text { (text : List ℕ) → Spells grammar text → IsOfLowered status → ToldOfText result.grammar result.status text }
+        ensures line { (g : Grammar) → (left : Option (List ℕ)) → (tail : List ℕ) → LowersTo grammar g → IsTailIn left tail → ToldOfLines g tail status → TellsRunLine left result.grammar result.status }
     {
         match status {
             Status::Memory => Stop::bare(status),
@@ -67,8 +70,10 @@ impl Stop {
 pub fn file_of(alloc: Global, bytes: &[u8]) -> Result<File, Stop>
     ensures file { IfOk result (IsFile bytes.now) }
     ensures stops { IfErr result (λ stop. IsOfFile stop.status) }
+    ensures answered { IfErr result (λ stop. IsAnswered stop.grammar stop.status) }
     ensures told { IfErr result (λ stop. Tells stop.grammar stop.status) }
-    ensures no_line { IfErr result (λ stop. IsOfNoLine stop.status) }
+    ensures no_line { IfErr result (λ stop. IsBeforeLines stop.status) }
+    ensures text { IfErr result (λ stop. OfText bytes.now (ToldOfText stop.grammar stop.status)) }
 {
     let (text, tail) = cut_file(bytes);
     let (plain, lowered) = match lowered_of(alloc, text) {
@@ -89,8 +94,10 @@ pub fn file_of(alloc: Global, bytes: &[u8]) -> Result<File, Stop>
 /// The answer on bytes that spell no plain grammar, or one whose lowering is refused.
 fn unread(fault: BytesFault) -> Stop
     ensures stops { IsOfFile result.status }
+    ensures answered { IsAnswered result.grammar result.status }
     ensures told { Tells result.grammar result.status }
-    ensures no_line { IsOfNoLine result.status }
+    ensures no_line { IsBeforeLines result.status }
+    ensures text { (text : List ℕ) → IsTextFault text fault → ToldOfText result.grammar result.status text }
 {
     match fault {
         BytesFault::Grammar { place } => Stop::bare(Status::Grammar { place }),
@@ -106,8 +113,9 @@ fn tables_and_tail(
     ensures tables { IfOk result (λ both. AreTablesOrNone grammar.now both.0.items) }
     ensures tail { IfOk result (λ both. both.1.items ≡ tail.now) }
     ensures stops { IfErr result IsOfFile }
+    ensures grammar { IfErr result IsOfLowered }
     ensures told { IfErr result (ToldOf grammar.now) }
-    ensures no_line { IfErr result IsOfNoLine }
+    ensures no_line { IfErr result IsBeforeLines }
 {
     let tables = tables_or_none(alloc, grammar)?;
     match Vec::from_slice(alloc, tail) {
@@ -120,8 +128,9 @@ fn tables_and_tail(
 fn tables_or_none(alloc: Global, grammar: &Grammar) -> Result<Vec<StartStates>, Status>
     ensures tables { IfOk result (λ v. AreTablesOrNone grammar.now v.items) }
     ensures stops { IfErr result IsOfFile }
+    ensures grammar { IfErr result IsOfLowered }
     ensures told { IfErr result (ToldOf grammar.now) }
-    ensures no_line { IfErr result IsOfNoLine }
+    ensures no_line { IfErr result IsBeforeLines }
 {
     match tables_of(alloc, grammar) {
         Ok(tables) => Ok(tables),

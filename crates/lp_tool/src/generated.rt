@@ -1,10 +1,12 @@
 //! The generated grammar, emitted and run.
 
-ghost use Rattle.std.specs.Prelude.{◌≡◌, ◌++◌, ℕ, List, [], Option, None, Some, IfErr, IfOk, OnOk, length, string_bytes};
+ghost use Rattle.std.specs.Prelude.{◌≡◌, ◌++◌, ℕ, List, [], Option, None, Some, IfErr, IfOk, OnOk, codes, length, string_bytes};
 ghost use Rattle.lp_tool.specs.Causes.{IsOfFile};
 ghost use Rattle.lp_tool.specs.LinesTold.{IsOfNoLine};
-ghost use Rattle.lp_tool.specs.Outputs.{Course, IsReport, course_text, first_count, size_text};
-ghost use Rattle.lp_tool.specs.Told.{IsPrepared, Tells};
+ghost use Rattle.lp_text_run.specs.Courses.{Course, IsCourse};
+ghost use Rattle.lp_tool.specs.Outputs.{IsReport, course_text, first_count, size_text};
+ghost use Rattle.lp_tool.specs.TextTold.{OfFile, OfText, Spells, TellsText};
+ghost use Rattle.lp_tool.specs.Told.{IsAnswered, IsPrepared, Tells};
 ghost use Rattle.lp_tool.specs.declared.command.Command.{Command};
 
 use crate::file::{Stop, file_of};
@@ -26,8 +28,11 @@ const BUDGET: u64 = 1_000_000;
 /// steps of the program that the text reads as.
 pub fn prepare_generated(alloc: Global, levels: u8) -> Result<Prepared, Stop>
     ensures stops { IfErr result (λ stop. IsOfFile stop.status) }
+    ensures answered { IfErr result (λ stop. IsAnswered stop.grammar stop.status) }
     ensures told { IfErr result (λ stop. Tells stop.grammar stop.status) }
     ensures no_line { IfErr result (λ stop. IsOfNoLine stop.status) }
+    ensures text { (left : Option (List ℕ)) → IfErr result (λ stop. TellsText (Some (Command.Make levels)) left stop.grammar stop.status) }
+    ensures spelled { (left : Option (List ℕ)) → IfOk result (λ p. OfFile (Some (Command.Make levels)) left (λ bytes. OfText bytes (Spells p.grammar))) }
     ensures prepared { (left : Option (List ℕ)) → IfOk result (IsPrepared (Some (Command.Make levels)) left) }
 {
     let Ok(source) = make_text(alloc, u32::from(levels)) else {
@@ -63,7 +68,7 @@ fn state_count(tables: &[StartStates]) -> usize
 
 /// The lines that tell of a generated text and of its run.
 fn report(alloc: Global, text: &str, states: usize, levels: u8) -> Result<String, AllocError>
-    ensures { IfOk result (λ output. IsReport states (length text.now) (string_bytes output)) }
+    ensures { IfOk result (λ output. IsReport text.now states (length text.now) (string_bytes output)) }
 {
     let mut output = sizes(alloc, states, text.len())?;
     let program = match read_program(alloc, text) {
@@ -82,7 +87,7 @@ fn write_course(
     items: &[RunItem],
     output: &mut String,
 ) -> Result<(), AllocError>
-    ensures { OnOk result ((course : Course) × (string_bytes output.new ≡ string_bytes output.old ++ course_text course.events course.outcome course.steps)) }
+    ensures { OnOk result ((course : Course) × IsCourse program.now (codes "E0") items.now [] [] 1000000 course × (string_bytes output.new ≡ string_bytes output.old ++ course_text course.events course.outcome course.steps)) }
 {
     match run_program(alloc, program, "E0", items, &[], &[], BUDGET) {
         Ok(run) => write_run(output, &run)?,

@@ -5,10 +5,9 @@ mod command;
 mod file;
 mod generated;
 mod status;
-mod text_run;
 mod tool;
 
 pub use command::{Command, read_words};
+pub use lp_text_run::{TextRunFault, run_text};
 pub use status::{Status, status_line};
-pub use text_run::{TextRunFault, run_text};
 pub use tool::{Report, run_tool};

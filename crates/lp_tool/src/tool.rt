@@ -1,23 +1,25 @@
 //! The tool: words and a source in, text and runs out.
 
-ghost use Rattle.std.specs.Prelude.{◌≡◌, ◌≢◌, ◌++◌, ◌∷◌, ℕ, List, [], length, codes, string_bytes, IfErr, IfOk, OnOk, None, Some};
+ghost use Rattle.std.specs.Prelude.{◌≡◌, ◌≤◌, ◌++◌, ◌∷◌, ℕ, List, [], length, codes, string_bytes, IfErr, IfOk, OnOk, None, Some};
 ghost use Rattle.lp_emit.specs.Causes.{MayBeEmitted};
 ghost use Rattle.lp_emit.specs.Texts.{IsEmission};
+ghost use Rattle.lp_plain.specs.Front.{LowersTo};
 ghost use Rattle.lp_tool.specs.Command.{command_of};
-ghost use Rattle.lp_tool.specs.Causes.{Causes, IsOfFile, IsOfWriting, IsStop, StopsReading, Written};
-ghost use Rattle.lp_tool.specs.LinesTold.{IsOfNoLine, TellsLine, ToldOfLines};
-ghost use Rattle.lp_tool.specs.Outputs.{AreLinesOf, IsRunOutput};
-ghost use Rattle.lp_tool.specs.Told.{AreTablesOrNone, IsPrepared, IsRefusal, Tells, ToldOf, Wrote};
+ghost use Rattle.lp_tool.specs.Causes.{Causes, IsOfFile, IsOfReading, IsOfWriting, IsPastReading, IsStop, StopsReading, Written};
+ghost use Rattle.lp_tool.specs.LinesTold.{IsBeforeLines, IsOfNoLine, TellsLine, TellsRunLine, ToldOfLines};
+ghost use Rattle.lp_tool.specs.Outputs.{AreLinesOf, IsRunOutput, values_of};
+ghost use Rattle.lp_tool.specs.TextTold.{OfFile, OfText, Spells, TellsText, ToldOfText};
+ghost use Rattle.lp_tool.specs.Told.{AreTablesOrNone, HasTables, IsAnswered, IsOfLowered, IsPrepared, IsRefusal, Tells, ToldOf, Wrote};
 
 use crate::command::{Command, read_words};
 use crate::file::{File, Stop, file_of};
 use crate::generated::prepare_generated;
 use crate::status::Status;
-use crate::text_run::run_text;
 use lp_emit::{EmitError, emitted_text};
 use lp_plain::{LineFault, PlainGrammar, ReadError, TokenLine, read_all, read_token_lines};
 use lp_repr::repr::Grammar;
 use lp_repr::{Items, StartStates, Text};
+use lp_text_run::run_text;
 use lp_write::sinks::write_all;
 use lp_write::{Options, Sink, Source};
 use std::alloc::{AllocError, Global};
@@ -53,9 +55,11 @@ pub fn run_tool<S: Source, K: Sink>(
     sink: &mut K,
 ) -> Report
     ensures usage { command_of words.now ≡ None → result.status ≡ Status.Usage }
-    ensures causes { Causes words.now (S.left source.old) (S.faults source.old) (S.faults source.new) result.status }
+    ensures causes { Causes (command_of words.now) (S.left source.old) (S.faults source.old) (S.faults source.new) result.status }
+    ensures answered { IsAnswered result.grammar result.status }
     ensures told { Tells result.grammar result.status }
-    ensures line { TellsLine (S.left source.old) result.grammar result.status }
+    ensures text { TellsText (command_of words.now) (S.left source.old) result.grammar result.status }
+    ensures line { TellsLine (command_of words.now) (S.left source.old) result.grammar result.status }
     ensures wrote { Wrote (command_of words.now) (S.left source.old) result.grammar result.tables result.text_len (K.told sink.old) (K.told sink.new) result.status }
     ensures nothing { IsStop result.status → (result.tables ≡ []) × (result.text_len ≡ 0) }
 {
@@ -98,11 +102,14 @@ fn written<K: Sink>(sink: &mut K, output: &[u8]) -> Status
 }
 
 fn prepare<S: Source>(alloc: Global, words: &[Text], source: &mut S) -> Result<Prepared, Stop>
-    ensures causes { IfErr result (λ stop. Causes words.now (S.left source.old) (S.faults source.old) (S.faults source.new) stop.status) }
+    ensures causes { IfErr result (λ stop. Causes (command_of words.now) (S.left source.old) (S.faults source.old) (S.faults source.new) stop.status) }
     ensures stops { IfErr result (λ stop. IsStop stop.status) }
-    ensures goes { OnOk result (command_of words.now ≢ None) }
+    ensures goes { OnOk result (IsPastReading (command_of words.now) (S.left source.old)) }
+    ensures answered { IfErr result (λ stop. IsAnswered stop.grammar stop.status) }
     ensures told { IfErr result (λ stop. Tells stop.grammar stop.status) }
-    ensures line { IfErr result (λ stop. TellsLine (S.left source.old) stop.grammar stop.status) }
+    ensures text { IfErr result (λ stop. TellsText (command_of words.now) (S.left source.old) stop.grammar stop.status) }
+    ensures spelled { IfOk result (λ p. OfFile (command_of words.now) (S.left source.old) (λ bytes. OfText bytes (Spells p.grammar))) }
+    ensures line { IfErr result (λ stop. TellsLine (command_of words.now) (S.left source.old) stop.grammar stop.status) }
     ensures prepared { IfOk result (IsPrepared (command_of words.now) (S.left source.old)) }
 {
     match read_words(words) {
@@ -122,9 +129,12 @@ fn prepare<S: Source>(alloc: Global, words: &[Text], source: &mut S) -> Result<P
 /// All bytes of the source.
 fn taken<S: Source>(alloc: Global, source: &mut S) -> Result<Vec<u8>, Stop>
     ensures bytes { IfOk result (λ v. (bytes : List ℕ) → S.left source.old ≡ Some bytes → v.items ≡ bytes) }
+    ensures few { IfOk result (λ v. length v.items ≤ 16777216) }
     ensures stops { IfErr result (λ stop. StopsReading (S.left source.old) (S.faults source.old) (S.faults source.new) stop.status) }
+    ensures ended { IfErr result (λ stop. IsOfReading stop.status) }
+    ensures answered { IfErr result (λ stop. IsAnswered stop.grammar stop.status) }
     ensures told { IfErr result (λ stop. Tells stop.grammar stop.status) }
-    ensures no_line { IfErr result (λ stop. IsOfNoLine stop.status) }
+    ensures no_line { IfErr result (λ stop. IsBeforeLines stop.status) }
 {
     match read_all(alloc, source) {
         Ok(bytes) => Ok(bytes),
@@ -137,8 +147,11 @@ fn taken<S: Source>(alloc: Global, source: &mut S) -> Result<Vec<u8>, Stop>
 /// The output of `emit`: the parser text.
 fn prepare_emit(alloc: Global, bytes: &[u8], options: Options) -> Result<Prepared, Stop>
     ensures stops { IfErr result (λ stop. IsOfFile stop.status) }
+    ensures answered { IfErr result (λ stop. IsAnswered stop.grammar stop.status) }
     ensures told { IfErr result (λ stop. Tells stop.grammar stop.status) }
     ensures no_line { IfErr result (λ stop. IsOfNoLine stop.status) }
+    ensures text { IfErr result (λ stop. OfText bytes.now (ToldOfText stop.grammar stop.status)) }
+    ensures spelled { IfOk result (λ p. OfText bytes.now (Spells p.grammar)) }
     ensures prepared { IfOk result (IsPrepared (Some (Command.Emit options)) (Some bytes.now)) }
 {
     let file = file_of(alloc, bytes)?;
@@ -156,8 +169,11 @@ fn prepare_emit(alloc: Global, bytes: &[u8], options: Options) -> Result<Prepare
 /// The output of `run`: the parser text, the line `---`, and the block of each token line.
 fn prepare_run(alloc: Global, bytes: &[u8], options: Options) -> Result<Prepared, Stop>
     ensures stops { IfErr result (λ stop. IsOfFile stop.status) }
+    ensures answered { IfErr result (λ stop. IsAnswered stop.grammar stop.status) }
     ensures told { IfErr result (λ stop. Tells stop.grammar stop.status) }
-    ensures line { IfErr result (λ stop. TellsLine (Some bytes.now) stop.grammar stop.status) }
+    ensures line { IfErr result (λ stop. TellsRunLine (Some bytes.now) stop.grammar stop.status) }
+    ensures text { IfErr result (λ stop. OfText bytes.now (ToldOfText stop.grammar stop.status)) }
+    ensures spelled { IfOk result (λ p. OfText bytes.now (Spells p.grammar)) }
     ensures prepared { IfOk result (IsPrepared (Some (Command.Run options)) (Some bytes.now)) }
 {
     let file = file_of(alloc, bytes)?;
@@ -173,8 +189,11 @@ fn prepare_run(alloc: Global, bytes: &[u8], options: Options) -> Result<Prepared
 }
 
 fn text_and_runs(alloc: Global, file: &File, options: &Options) -> Result<(usize, Vec<u8>), Status>
-    requires { AreTablesOrNone file.now.lowered file.now.tables.items }
+    requires spelled { (text : List ℕ) × Spells file.now.plain text }
+    requires lowered { LowersTo file.now.plain file.now.lowered }
+    requires tables { AreTablesOrNone file.now.lowered file.now.tables.items }
     ensures stops { IfErr result IsOfFile }
+    ensures grammar { IfErr result IsOfLowered }
     ensures told { IfErr result (ToldOf file.now.lowered) }
     ensures lines { IfErr result (ToldOfLines file.now.lowered file.now.tail.items) }
     ensures emitted { OnOk result (MayBeEmitted file.now.lowered file.now.tables.items) }
@@ -198,8 +217,11 @@ fn text_and_runs(alloc: Global, file: &File, options: &Options) -> Result<(usize
 
 /// The parser text of a file.
 pub fn emitted(alloc: Global, file: &File, options: &Options) -> Result<String, Status>
-    requires { AreTablesOrNone file.now.lowered file.now.tables.items }
+    requires spelled { (text : List ℕ) × Spells file.now.plain text }
+    requires lowered { LowersTo file.now.plain file.now.lowered }
+    requires tables { AreTablesOrNone file.now.lowered file.now.tables.items }
     ensures stops { IfErr result IsOfFile }
+    ensures grammar { IfErr result IsOfLowered }
     ensures told { IfErr result (ToldOf file.now.lowered) }
     ensures no_line { IfErr result IsOfNoLine }
     ensures emitted { OnOk result (MayBeEmitted file.now.lowered file.now.tables.items) }
@@ -212,8 +234,10 @@ pub fn emitted(alloc: Global, file: &File, options: &Options) -> Result<String, 
 }
 
 fn token_lines(alloc: Global, grammar: &Grammar, tail: &[u8]) -> Result<Vec<TokenLine>, Status>
+    requires tables { HasTables grammar.now }
     ensures lines { IfOk result (λ lines. AreLinesOf grammar.now tail.now lines.items) }
     ensures stops { IfErr result IsOfFile }
+    ensures grammar { IfErr result IsOfLowered }
     ensures told { IfErr result (ToldOf grammar.now) }
     ensures misfit { IfErr result (ToldOfLines grammar.now tail.now) }
 {
@@ -225,7 +249,9 @@ fn token_lines(alloc: Global, grammar: &Grammar, tail: &[u8]) -> Result<Vec<Toke
 }
 
 /// The value of each parameter: its name.
-pub fn parameter_values(alloc: Global, grammar: &Grammar) -> Result<Vec<Text>, AllocError> {
+pub fn parameter_values(alloc: Global, grammar: &Grammar) -> Result<Vec<Text>, AllocError>
+    ensures { IfOk result (λ values. values.items ≡ values_of grammar.now) }
+{
     let mut values = Vec::new(alloc);
     for parameter in grammar.parameters.as_slice() {
         values.push(parameter.name.clone()?)?;
@@ -248,6 +274,7 @@ fn joined(text: String, blocks: &[u8]) -> Result<(usize, Vec<u8>), AllocError>
 /// The status that tells of a refused emission.
 fn refused(error: EmitError) -> Status
     ensures stops { IsOfFile result }
+    ensures grammar { IsOfLowered result }
     ensures refusal { IsRefusal error result }
     ensures no_line { IsOfNoLine result }
 {

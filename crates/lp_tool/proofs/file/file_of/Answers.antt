@@ -6,5 +6,5 @@ pub returns-in-Ok-tables_and_tail-clause-file : goal.returns-in-Ok-tables_and_ta
 returns-in-Ok-tables_and_tail-clause-file c = record {
   lowered = c.in-Ok.ensures.lowered;
   tables = c.in-Ok-tables_and_tail.ensures.tables;
-  tail = (c.cut_file.result.0.now, subst (IsCutFile c.args.bytes.now c.cut_file.result.0.now) (sym c.in-Ok-tables_and_tail.ensures.tail) c.cut_file.ensures);
+  tail = (c.cut_file.result.0.now, subst (IsCutFile c.args.bytes.now c.cut_file.result.0.now) (sym c.in-Ok-tables_and_tail.ensures.tail) c.cut_file.ensures, c.in-Ok.ensures.spelled);
 }

@@ -7,7 +7,7 @@ use Rattle.lp_tool.proofs.tool.emitted.Goals as goal
 pub returns-in-Err-clause-told : goal.returns-in-Err-clause-told
 returns-in-Err-clause-told c =
     let cause : Refuses c.args.file.now.lowered c.args.file.now.tables.items c.in-Err.error = search rules in
-    told_refused c.args.file.now.lowered c.args.file.now.tables.items c.in-Err.error c.refused.result c.requires cause c.refused.ensures.refusal
+    told_refused c.requires.spelled.0 c.args.file.now.plain c.args.file.now.lowered c.args.file.now.tables.items c.in-Err.error c.refused.result c.requires.spelled.1 c.requires.lowered c.requires.tables cause c.refused.ensures.refusal
 
 pub returns-in-Ok-clause-text : goal.returns-in-Ok-clause-text
 returns-in-Ok-clause-text c =

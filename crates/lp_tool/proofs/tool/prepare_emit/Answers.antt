@@ -1,6 +1,8 @@
-use Rattle.std.proofs.Common.{rules, ◌≡◌, length, Some, string_bytes, subst}
+use Rattle.std.proofs.Common.{rules, ◌≡◌, IfErr, length, Some, string_bytes, subst}
 use Rattle.lp_emit.specs.Causes.{MayBeEmitted}
 use Rattle.lp_emit.specs.Texts.{IsEmission}
+use Rattle.lp_tool.specs.LinesTold.{IsBeforeLines}
+use Rattle.lp_tool.proofs.LinesTold.{before_told}
 use Rattle.lp_tool.proofs.Telling.{made_emit}
 use Rattle.lp_tool.proofs.tool.prepare_emit.Goals as goal
 
@@ -18,3 +20,22 @@ returns-in-Ok-clause-prepared c =
     let text : IsEmission c.in_ok-file.file.lowered c.in_ok-file.file.tables.items c.args.options c.into_bytes.result.items = subst (IsEmission c.in_ok-file.file.lowered c.in_ok-file.file.tables.items c.args.options) same told in
     let len : c.len.result ≡ length c.into_bytes.result.items = search rules in
     made_emit c.args.options (Some c.args.bytes.now) c.in_ok-file.file.plain g tables c.len.result c.into_bytes.result.items c.in_ok-file.ensures.file.lowered c.in_ok-file.ensures.file.tables may text len
+
+pub returns-in_err-file-clause-no_line : goal.returns-in_err-file-clause-no_line
+returns-in_err-file-clause-no_line c =
+    let before : IfErr c.from_residual.result (λ stop. IsBeforeLines stop.status) = search rules in
+    before_told c.from_residual.result before
+
+-- what is told of the text
+pub returns-in-Err-clause-text : goal.returns-in-Err-clause-text
+returns-in-Err-clause-text c =
+    let of_text = c.in_ok-file.ensures.file.tail in
+    (of_text.0, c.in_ok-file.file.tail.items, of_text.1, c.with.ensures.text of_text.0 of_text.2 c.in-Err.ensures.grammar)
+
+pub returns-in-Ok-clause-spelled : goal.returns-in-Ok-clause-spelled
+returns-in-Ok-clause-spelled c =
+    let of_text = c.in_ok-file.ensures.file.tail in
+    (of_text.0, c.in_ok-file.file.tail.items, of_text.1, of_text.2)
+
+pub emitted-requires-clause-spelled : goal.emitted-requires-clause-spelled
+emitted-requires-clause-spelled c = (c.in_ok-file.ensures.file.tail.0, c.in_ok-file.ensures.file.tail.2)

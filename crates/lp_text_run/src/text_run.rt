@@ -1,11 +1,12 @@
 //! The runs of a parser text.
 
-ghost use Rattle.std.specs.Prelude.{◌≡◌, ◌++◌, [], length, string_bytes, IfOk, OnOk, None, Some};
+ghost use Rattle.std.specs.Prelude.{◌≡◌, ◌++◌, [], string_bytes, IfOk, IfErr, OnOk, None, Some};
 ghost use Rattle.lp_lines.specs.Blocks.{block_text};
-ghost use Rattle.lp_tool.specs.Outputs.{AreBlocks, Course};
+ghost use Rattle.lp_text_run.specs.Blocks.{AreRuns, IsLineFault, IsRunFault, RunsLine};
+ghost use Rattle.lp_text_run.specs.Courses.{Course};
 
 use lp_driver::RunError;
-use lp_plain::{Block, TokenLine, append_block};
+use lp_lines::{Block, TokenLine, append_block};
 use lp_program::{Program, ReadFault, read_program};
 use lp_repr::Text;
 use lp_run::{Run, run_program};
@@ -24,7 +25,7 @@ pub enum TextRunFault {
 }
 
 impl From<AllocError> for TextRunFault {
-    ghost use Rattle.lp_tool.specs.declared.text_run.TextRunFault.TheVariants.{Memory};
+    ghost use Rattle.lp_text_run.specs.declared.text_run.TextRunFault.TheVariants.{Memory};
 
     ghost from_gives = { λ _ e. e ≡ Memory };
 
@@ -42,7 +43,8 @@ pub fn run_text(
     lines: &[TokenLine],
     params: &[Text],
 ) -> Result<Vec<u8>, TextRunFault>
-    ensures { IfOk result (λ blocks. AreBlocks lines.now (length lines.now) blocks.items) }
+    ensures blocks { IfOk result (λ blocks. AreRuns text.now params.now lines.now blocks.items) }
+    ensures fault { IfErr result (IsRunFault text.now params.now lines.now) }
 {
     let program = match read_program(alloc, text) {
         Ok(program) => program,
@@ -64,7 +66,8 @@ fn run_line(
     params: &[Text],
     out: &mut String,
 ) -> Result<(), TextRunFault>
-    ensures { OnOk result ((course : Course) × (string_bytes out.new ≡ string_bytes out.old ++ block_text number line.now.start course.events course.outcome (Some course.steps))) }
+    ensures block { OnOk result ((course : Course) × RunsLine program.now params.now line.now course × (string_bytes out.new ≡ string_bytes out.old ++ block_text number line.now.start course.events course.outcome (Some course.steps))) }
+    ensures fault { IfErr result (IsLineFault program.now params.now line.now number) }
 {
     let start = line.start.as_str();
     let items = line.items.as_slice();

@@ -1,0 +1,10 @@
+use Rattle.std.proofs.Common.{rules, ◌≡◌, length, string_bytes}
+use Rattle.lp_tool.specs.Outputs.{size_text}
+use Rattle.lp_tool.proofs.Reporting.{report_told}
+use Rattle.lp_tool.proofs.generated.report.Goals as goal
+
+pub returns : goal.returns
+returns c =
+    let run = c.in_ok-write_course.ensures in
+    let sizes : string_bytes c.in_ok-output.output ≡ size_text c.args.states (length c.args.text.now) = search rules in
+    report_told c.args.text.now c.args.states c.in-Ok.program c.as_slice.result.now run.0 (string_bytes c.in_ok-output.output) (string_bytes c.write_course.new.output) c.in-Ok.ensures run.1 sizes run.2

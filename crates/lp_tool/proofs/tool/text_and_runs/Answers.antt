@@ -1,0 +1,28 @@
+use Rattle.std.proofs.Common.{rules, IfErr, ◌∷◌, ◌++◌, ◌≡◌, ◌∙◌, codes, ap, subst, string_bytes}
+use Rattle.lp_tool.specs.LinesTold.{IsOfNoLine}
+use Rattle.lp_tool.specs.Outputs.{AreLinesOf}
+use Rattle.lp_tool.proofs.LinesTold.{read_told}
+use Rattle.lp_tool.proofs.Reporting.{runs_of}
+use Rattle.lp_tool.proofs.tool.text_and_runs.Goals as goal
+
+pub token_lines-requires : goal.token_lines-requires
+token_lines-requires c = record { tables = (c.args.file.now.tables.items, c.requires.tables) }
+
+pub returns-in_err-text-clause-lines : goal.returns-in_err-text-clause-lines
+returns-in_err-text-clause-lines c =
+    let none : IfErr c.from_residual-in_err-text.result IsOfNoLine = search rules in
+    let read : AreLinesOf c.args.file.now.lowered c.args.file.now.tail.items c.in_ok-lines.lines.items = search rules in
+    read_told c.from_residual-in_err-text.result c.args.file.now.lowered c.args.file.now.tail.items (c.in_ok-lines.lines.items, read) none
+
+-- the output of the runs, from its parts
+pub returns-in-Ok-joined-clause-output : goal.returns-in-Ok-joined-clause-output
+returns-in-Ok-joined-clause-output c = record {
+  text = string_bytes c.in_ok-text.text;
+  emission = c.in_ok-text.ensures.text;
+  len = c.in-Ok-joined.ensures.length;
+  lines = c.in_ok-lines.lines.items;
+  read = subst (λ tail. AreLinesOf c.args.file.now.lowered tail c.in_ok-lines.lines.items) c.as_slice.ensures.value c.in_ok-lines.ensures.lines;
+  blocks = c.in-Ok-run_text.blocks.items;
+  told = runs_of c.args.file.now.lowered (string_bytes c.in_ok-text.text) c.as_str.result.now c.in-Ok.params.items c.as_slice-3.result.now c.in_ok-lines.lines.items c.as_slice-2.result.now c.in-Ok-run_text.blocks.items c.as_str.ensures.value c.as_slice-3.ensures.value c.as_slice-2.ensures.value c.in-Ok.ensures c.in-Ok-run_text.ensures.blocks;
+  whole = c.in-Ok-joined.ensures.whole ∙ ap (λ b. string_bytes c.in_ok-text.text ++ (codes "---" ++ 10 ∷ b)) c.as_slice-in-Ok-run_text.ensures.value;
+}
