@@ -1,9 +1,9 @@
 //! Whole grammar files.
 
 use crate::broken::file;
+use lp_generated::{make_items, make_text};
 use lp_plain::{
-    BytesFault, ParseError, Span, build_states, lower, make_items, make_text, parse_grammar,
-    plain_of, report_parse_error,
+    BytesFault, ParseError, Span, build_states, lower, parse_grammar, plain_of, report_parse_error,
 };
 use std::alloc::Global;
 use std::test::Fail;

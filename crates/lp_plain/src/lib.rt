@@ -10,8 +10,8 @@ pub use input::{LIMIT, ReadError, read_all};
 pub use lp_lines::{Block, LineFault, TokenLine, append_block, cut_file, read_token_lines};
 pub use lp_lower::{LowerFault, lower};
 pub use lp_reading::{
-    BytesFault, ParseError, PlainError, Span, Top, make_items, make_text, parse_grammar, parse_top,
-    place_of, plain_of, report_parse_error,
+    BytesFault, ParseError, PlainError, Span, Top, parse_grammar, parse_top, place_of, plain_of,
+    report_parse_error,
 };
 pub use lp_starts::{TablesFault, tables_of};
 pub use lp_states::{BuildFault, build_states};

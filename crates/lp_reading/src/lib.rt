@@ -2,7 +2,6 @@
 #![tactic(auto)]
 
 mod bytes;
-mod generated;
 mod prefix;
 mod read_extern;
 mod read_grammar;
@@ -15,7 +14,6 @@ mod report;
 mod top;
 
 pub use bytes::{BytesFault, plain_of};
-pub use generated::{make_items, make_text};
 pub use lp_types::{ParseError, PlainError, Span, place_of};
 pub use report::report_parse_error;
 pub use top::{Top, parse_grammar, parse_top};

@@ -127,13 +127,13 @@ made_emit options left plain g tables text_len output l a m e n = (g, l, emitted
 pub made_run : (options : Options) (left : Option (List ℕ)) (plain : PlainGrammar) (g : Grammar) (tables : List StartStates) (tail : List ℕ) (text_len : ℕ) (output : List ℕ) → LowersTo plain g → AreTablesOrNone g tables → MayBeEmitted g tables → IsTailIn left tail → IsRunOutput g tables options tail text_len output → IsMade (Some (asked.Run options)) left plain tables text_len output
 made_run options left plain g tables tail text_len output l a m t r = (g, l, emitted g tables a m, (tail, t, r))
 
-pub made_make : (levels : ℕ) (left : Option (List ℕ)) (plain : PlainGrammar) (g : Grammar) (tables : List StartStates) (text_len : ℕ) (output text : List ℕ) → LowersTo plain g → AreTablesOrNone g tables → MayBeEmitted g tables → IsEmission g tables (looks false true) text → text_len ≡ length text → IsReport text (first_count tables) text_len output → IsMade (Some (asked.Make levels)) left plain tables text_len output
+pub made_make : (levels : ℕ) (left : Option (List ℕ)) (plain : PlainGrammar) (g : Grammar) (tables : List StartStates) (text_len : ℕ) (output text : List ℕ) → LowersTo plain g → AreTablesOrNone g tables → MayBeEmitted g tables → IsEmission g tables (looks false true) text → text_len ≡ length text → IsReport levels text (first_count tables) text_len output → IsMade (Some (asked.Make levels)) left plain tables text_len output
 made_make levels left plain g tables text_len output text l a m e n r = (g, l, emitted g tables a m, (text, e, n, r))
 
 -- what is told of a text and its tables, by their sizes
-pub report_of : (text : List ℕ) (states states' text_len text_len' : ℕ) (output output' : List ℕ) → states ≡ states' → text_len ≡ text_len' → output ≡ output' → IsReport text states text_len output → IsReport text states' text_len' output'
-report_of text states states' text_len text_len' output output' s t o r =
-    subst (IsReport text states' text_len') o (subst (λ n. IsReport text states' n output) t (subst (λ n. IsReport text n text_len output) s r))
+pub report_of : (levels : ℕ) (text : List ℕ) (states states' text_len text_len' : ℕ) (output output' : List ℕ) → states ≡ states' → text_len ≡ text_len' → output ≡ output' → IsReport levels text states text_len output → IsReport levels text states' text_len' output'
+report_of levels text states states' text_len text_len' output output' s t o r =
+    subst (IsReport levels text states' text_len') o (subst (λ n. IsReport levels text states' n output) t (subst (λ n. IsReport levels text n text_len output) s r))
 
 some_same : (a b : List ℕ) → Some a ≡ Some b → a ≡ b
 some_same a b p = ap (λ (o : Option (List ℕ)). unwrap_or o a) p

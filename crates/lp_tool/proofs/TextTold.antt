@@ -1,5 +1,6 @@
 -- What is told of the text of a file.
 use Rattle.std.proofs.Common.{◌≡◌, ◌≤◌, ℕ, List, length, Option, Some, None, IfSome, Result, Ok, Err, IfErr, IfOk, subst, sym}
+use Rattle.lp_generated.specs.Generated.{grammar_text}
 use Rattle.lp_syntax.specs.declared.plain.PlainGrammar.{PlainGrammar}
 use Rattle.lp_tool.specs.Causes.{IsOfFile, IsOfReading, IsOfWriting}
 use Rattle.lp_tool.specs.TextTold.{OfFile, OfText, Spells, TellsText, ToldOfText}
@@ -104,6 +105,6 @@ make_spelled (Ok p) named levels left e t = subst (λ (c : Option Command). OfFi
 make_spelled (Err stop) named levels left e t = t
 
 -- the text that `make` generates
-pub generated_text : {A : Type 0} (result : Result A Stop) (levels : ℕ) (left : Option (List ℕ)) (bytes : List ℕ) → IfErr result (λ stop. IsOfFile stop.status) → IfErr result (λ stop. OfText bytes (ToldOfText stop.grammar stop.status)) → IfErr result (λ stop. TellsText (Some (asked.Make levels)) left stop.grammar stop.status)
-generated_text (Ok a) levels left bytes o t = t
-generated_text (Err stop) levels left bytes o t = text_file (Some (asked.Make levels)) left stop.grammar stop.status o (bytes, t)
+pub generated_text : {A : Type 0} (result : Result A Stop) (levels : ℕ) (left : Option (List ℕ)) (bytes : List ℕ) → bytes ≡ grammar_text levels → IfErr result (λ stop. IsOfFile stop.status) → IfErr result (λ stop. OfText bytes (ToldOfText stop.grammar stop.status)) → IfErr result (λ stop. TellsText (Some (asked.Make levels)) left stop.grammar stop.status)
+generated_text (Ok a) levels left bytes made o t = t
+generated_text (Err stop) levels left bytes made o t = text_file (Some (asked.Make levels)) left stop.grammar stop.status o (subst (λ b. OfText b (ToldOfText stop.grammar stop.status)) made t)

@@ -2,6 +2,7 @@
 use Rattle.std.specs.Prelude.{◌≡◌, ℕ, true, false, List, [], ◌∷◌, ◌++◌, length, map, Option, Some, None, codes, decimal}
 use Rattle.lp_driver.specs.Values.{Text}
 use Rattle.lp_emit.specs.Texts.{IsEmission}
+use Rattle.lp_generated.specs.Generated.{token_list}
 use Rattle.lp_lines.specs.Blocks.{ending_text, line_text, steps_text}
 use Rattle.lp_lines.specs.File.{IsCutFile}
 use Rattle.lp_lines.specs.Scan.{all_some}
@@ -13,7 +14,6 @@ use Rattle.lp_repr.specs.declared.lr1.StartStates.{StartStates}
 use Rattle.lp_repr.specs.declared.repr.Grammar.{Grammar}
 use Rattle.lp_repr.specs.declared.values.Event.{Event}
 use Rattle.lp_repr.specs.declared.values.Outcome.{Outcome}
-use Rattle.lp_repr.specs.declared.values.RunItem.{RunItem}
 use Rattle.lp_text_run.specs.Blocks.{AreRuns}
 use Rattle.lp_text_run.specs.Courses.{Course, IsCourse}
 use Rattle.lp_tree.specs.declared.tree.Program.{Program}
@@ -60,15 +60,15 @@ course_text events outcome steps = calls_text events outcome ++ (line_text (endi
 abbrev pub size_text : ℕ → ℕ → List ℕ
 size_text states text_len = codes "states " ++ (decimal states ++ 10 ∷ (codes "text " ++ (decimal text_len ++ 10 ∷ [])))
 
--- the course of the run of a program from `E0` on the items that `make` hands in
-abbrev pub IsMadeCourse : Program → Course → Type 0
-IsMadeCourse program course = (items : List RunItem) × IsCourse program (codes "E0") items [] [] 1000000 course
+-- the course of the run of a program from `E0` on the tokens of so many levels
+abbrev pub IsMadeCourse : ℕ → Program → Course → Type 0
+IsMadeCourse levels program course = IsCourse program (codes "E0") (token_list levels) [] [] 1000000 course
 
 -- what is told of a generated text: the number of its states, its length, and the run of the program that it
 -- reads as
-abbrev pub IsReport : List ℕ → ℕ → ℕ → List ℕ → Type 0
-IsReport text states text_len output =
-    (program : Program) × (course : Course) × ReadsAs text program × IsMadeCourse program course
+abbrev pub IsReport : ℕ → List ℕ → ℕ → ℕ → List ℕ → Type 0
+IsReport levels text states text_len output =
+    (program : Program) × (course : Course) × ReadsAs text program × IsMadeCourse levels program course
     × (output ≡ size_text states text_len ++ course_text course.events course.outcome course.steps)
 
 -- a tail that follows the text of a file, where its bytes are told
@@ -80,4 +80,4 @@ abbrev pub IsOutput : Command → Option (List ℕ) → Grammar → List StartSt
 IsOutput (Emit options) left g tables text_len output = IsEmission g tables options output × (text_len ≡ length output)
 IsOutput (Run options) left g tables text_len output = (tail : List ℕ) × IsTailIn left tail × IsRunOutput g tables options tail text_len output
 IsOutput (Make levels) left g tables text_len output =
-    (text : List ℕ) × IsEmission g tables (looks false true) text × (text_len ≡ length text) × IsReport text (first_count tables) text_len output
+    (text : List ℕ) × IsEmission g tables (looks false true) text × (text_len ≡ length text) × IsReport levels text (first_count tables) text_len output

@@ -1,5 +1,6 @@
 -- What an answer tells of the text of a grammar file.
 use Rattle.std.specs.Prelude.{ℕ, List, Option, Some, None, IfSome}
+use Rattle.lp_generated.specs.Generated.{grammar_text}
 use Rattle.lp_lines.specs.File.{IsCutFile}
 use Rattle.lp_plain.specs.Front.{HasNoGrammar, OfSource}
 use Rattle.lp_reading.specs.Bytes.{IsPlainOf}
@@ -17,13 +18,12 @@ OfText bytes Holds = (text : List ℕ) × (tail : List ℕ) × IsCutFile bytes t
 abbrev pub Spells : PlainGrammar → List ℕ → Type 0
 Spells plain text = IsPlainOf text plain
 
--- this holds of the file of a command: of the bytes that were read of its source, or of those that `make` generates,
--- which are not told
+-- this holds of the file of a command: of the bytes that were read of its source, or of those that `make` generates
 abbrev pub OfFile : Option Command → Option (List ℕ) → (List ℕ → Type 0) → Type 0
 OfFile None left Holds = ⊥
 OfFile (Some (Emit options)) left Holds = OfSource left Holds
 OfFile (Some (Run options)) left Holds = OfSource left Holds
-OfFile (Some (Make levels)) left Holds = (bytes : List ℕ) × Holds bytes
+OfFile (Some (Make levels)) left Holds = Holds (grammar_text levels)
 
 -- what a status tells of a text: that it gives no grammar, for the cause at this place, or that it spells the plain
 -- grammar that is answered

@@ -13,7 +13,7 @@ use crate::file::{Stop, file_of};
 use crate::status::Status;
 use crate::tool::{Prepared, emitted};
 use lp_driver::RunError;
-use lp_plain::{make_items, make_text};
+use lp_generated::{make_items, make_text};
 use lp_program::{Program, read_program};
 use lp_repr::StartStates;
 use lp_repr::values::RunItem;
@@ -68,7 +68,7 @@ fn state_count(tables: &[StartStates]) -> usize
 
 /// The lines that tell of a generated text and of its run.
 fn report(alloc: Global, text: &str, states: usize, levels: u8) -> Result<String, AllocError>
-    ensures { IfOk result (λ output. IsReport text.now states (length text.now) (string_bytes output)) }
+    ensures { IfOk result (λ output. IsReport levels text.now states (length text.now) (string_bytes output)) }
 {
     let mut output = sizes(alloc, states, text.len())?;
     let program = match read_program(alloc, text) {

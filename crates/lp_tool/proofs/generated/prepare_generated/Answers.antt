@@ -1,11 +1,12 @@
-use Rattle.std.proofs.Common.{rules, ◌≡◌, IfErr, Some, true, false, length, string_bytes, subst}
+use Rattle.std.proofs.Common.{rules, ◌≡◌, ◌∙◌, ap, IfErr, Some, true, false, length, string_bytes, subst}
 use Rattle.lp_emit.specs.Causes.{MayBeEmitted}
 use Rattle.lp_emit.specs.Texts.{IsEmission}
+use Rattle.lp_generated.specs.Generated.{grammar_text}
 use Rattle.lp_tool.specs.Command.{looks}
 use Rattle.lp_tool.specs.Outputs.{IsReport, first_count}
 use Rattle.lp_tool.specs.Causes.{IsOfFile}
 use Rattle.lp_tool.specs.LinesTold.{IsBeforeLines}
-use Rattle.lp_tool.specs.TextTold.{OfText, ToldOfText}
+use Rattle.lp_tool.specs.TextTold.{OfText, Spells, ToldOfText}
 use Rattle.lp_tool.specs.declared.command.Command.TheVariants as asked
 use Rattle.lp_tool.proofs.LinesTold.{before_told}
 use Rattle.lp_tool.proofs.Telling.{made_make, report_of}
@@ -28,9 +29,9 @@ returns-clause-prepared c =
     let states : c.state_count-states.result ≡ first_count c.in_ok-file.file.tables.items = search rules in
     let size : length (string_bytes c.in-Ok-emitted.text) ≡ c.len.result = search rules in
     let bytes : string_bytes c.in-Ok-report.output ≡ c.into_bytes.result.items = search rules in
-    let lines : IsReport (string_bytes c.in-Ok-emitted.text) c.state_count-states.result (length (string_bytes c.in-Ok-emitted.text)) (string_bytes c.in-Ok-report.output) =
-    subst (λ t. IsReport t c.state_count-states.result (length t) (string_bytes c.in-Ok-report.output)) c.as_str-2.ensures.value c.in-Ok-report.ensures in
-    let report = report_of (string_bytes c.in-Ok-emitted.text) c.state_count-states.result (first_count c.in_ok-file.file.tables.items) (length (string_bytes c.in-Ok-emitted.text)) c.len.result (string_bytes c.in-Ok-report.output) c.into_bytes.result.items states size bytes lines in
+    let lines : IsReport c.args.levels (string_bytes c.in-Ok-emitted.text) c.state_count-states.result (length (string_bytes c.in-Ok-emitted.text)) (string_bytes c.in-Ok-report.output) =
+    subst (λ t. IsReport c.args.levels t c.state_count-states.result (length t) (string_bytes c.in-Ok-report.output)) c.as_str-2.ensures.value c.in-Ok-report.ensures in
+    let report = report_of c.args.levels (string_bytes c.in-Ok-emitted.text) c.state_count-states.result (first_count c.in_ok-file.file.tables.items) (length (string_bytes c.in-Ok-emitted.text)) c.len.result (string_bytes c.in-Ok-report.output) c.into_bytes.result.items states size bytes lines in
     λ left. made_make c.args.levels left c.in_ok-file.file.plain g tables c.len.result c.into_bytes.result.items (string_bytes c.in-Ok-emitted.text) c.in_ok-file.ensures.file.lowered c.in_ok-file.ensures.file.tables may text len report
 
 pub returns-in_err-file-clause-no_line : goal.returns-in_err-file-clause-no_line
@@ -43,7 +44,8 @@ pub returns-in_err-file-clause-text : goal.returns-in_err-file-clause-text
 returns-in_err-file-clause-text c =
     let stops : IfErr c.from_residual.result (λ stop. IsOfFile stop.status) = search rules in
     let told : IfErr c.from_residual.result (λ stop. OfText c.as_bytes.result.now (ToldOfText stop.grammar stop.status)) = search rules in
-    λ left. generated_text c.from_residual.result c.args.levels left c.as_bytes.result.now stops told
+    let made : c.as_bytes.result.now ≡ grammar_text c.args.levels = c.as_bytes.ensures.value ∙ (c.as_str.ensures.value ∙ (c.in-Ok.ensures ∙ ap grammar_text c.from.ensures)) in
+    λ left. generated_text c.from_residual.result c.args.levels left c.as_bytes.result.now made stops told
 
 pub returns-in-Err-clause-text : goal.returns-in-Err-clause-text
 returns-in-Err-clause-text c =
@@ -51,12 +53,15 @@ returns-in-Err-clause-text c =
     let stops : IsOfFile c.with.result.status = search rules in
     let told : OfText c.as_bytes.result.now (ToldOfText c.with.result.grammar c.with.result.status) =
     (of_text.0, c.in_ok-file.file.tail.items, of_text.1, c.with.ensures.text of_text.0 of_text.2 c.in-Err.ensures.grammar) in
-    λ left. text_file (Some (asked.Make c.args.levels)) left c.with.result.grammar c.with.result.status stops (c.as_bytes.result.now, told)
+    let made : c.as_bytes.result.now ≡ grammar_text c.args.levels = c.as_bytes.ensures.value ∙ (c.as_str.ensures.value ∙ (c.in-Ok.ensures ∙ ap grammar_text c.from.ensures)) in
+    λ left. text_file (Some (asked.Make c.args.levels)) left c.with.result.grammar c.with.result.status stops (subst (λ b. OfText b (ToldOfText c.with.result.grammar c.with.result.status)) made told)
 
 pub returns-clause-spelled : goal.returns-clause-spelled
 returns-clause-spelled c =
     let of_text = c.in_ok-file.ensures.file.tail in
-    λ left. (c.as_bytes.result.now, (of_text.0, c.in_ok-file.file.tail.items, of_text.1, of_text.2))
+    let made : c.as_bytes.result.now ≡ grammar_text c.args.levels = c.as_bytes.ensures.value ∙ (c.as_str.ensures.value ∙ (c.in-Ok.ensures ∙ ap grammar_text c.from.ensures)) in
+    let spelled : OfText c.as_bytes.result.now (Spells c.in_ok-file.file.plain) = (of_text.0, c.in_ok-file.file.tail.items, of_text.1, of_text.2) in
+    λ left. subst (λ b. OfText b (Spells c.in_ok-file.file.plain)) made spelled
 
 pub emitted-requires-clause-spelled : goal.emitted-requires-clause-spelled
 emitted-requires-clause-spelled c = (c.in_ok-file.ensures.file.tail.0, c.in_ok-file.ensures.file.tail.2)
