@@ -50,8 +50,11 @@ token_at place form payloads = Token (At place) (record { form = form; payloads 
 abbrev pub number_item : ℕ → RunItem
 number_item place = token_at place (codes "Tok::N(_)") (decimal place ∷ [])
 
+unfoldable pub operator_form : ℕ → List ℕ
+operator_form level = codes "Tok::O" ++ decimal level
+
 abbrev pub operator_item : ℕ → ℕ → RunItem
-operator_item level place = token_at place (codes "Tok::O" ++ decimal level) []
+operator_item level place = token_at place (operator_form level) []
 
 -- the operator of a level, and a number
 abbrev pub level_items : ℕ → List RunItem

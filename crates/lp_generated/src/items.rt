@@ -1,7 +1,7 @@
 //! Tokens for it.
 
 ghost use Rattle.std.specs.Prelude.{◌≡◌, ◌+◌, ◌<◌, ◌^◌, ◌∷◌, [], ℕ, List, IfOk, codes, decimal};
-ghost use Rattle.lp_generated.specs.Generated.{number_item, operator_item, token_at, token_list};
+ghost use Rattle.lp_generated.specs.Generated.{number_item, operator_form, operator_item, token_at, token_list};
 
 use lp_repr::text::{Items, Text};
 use lp_repr::values::{Loc, RunItem, TokenValue};
@@ -37,8 +37,16 @@ fn operator_item(alloc: Global, level: u32, place: u64) -> Result<RunItem, Alloc
     requires { place + 1 < 2 ^ 64 }
     ensures { IfOk result (λ item. item ≡ operator_item level place) }
 {
-    let form = Text(format!(in alloc; "Tok::O{level}")?);
-    Ok(token_at(place, form, Items::new(alloc)))
+    let form = operator_form(alloc, level)?;
+    Ok(token_at(place, form, Items(Vec::new(alloc))))
+}
+
+#[tactic(auto, unfolding(crate::specs::Generated::operator_form))]
+fn operator_form(alloc: Global, level: u32) -> Result<Text, AllocError>
+    ensures { IfOk result (λ form. form ≡ operator_form level) }
+{
+    let form = format!(in alloc; "Tok::O{level}")?;
+    Ok(Text(form))
 }
 
 fn token_at(place: u64, form: Text, payloads: Items<Text>) -> RunItem
