@@ -1,8 +1,7 @@
 -- What is told of the command and of the source.
-use Rattle.std.proofs.Common.{◌≡◌, ◌≢◌, ◌≤◌, ℕ, List, length, Option, Some, None, Result, Ok, Err, IfErr, OnOk, subst, sym, ◌∙◌}
+use Rattle.std.proofs.Common.{◌≡◌, ◌≢◌, ◌≤◌, ℕ, List, length, Option, Some, None, Result, Ok, Err, IfErr, OnOk, subst, sym}
 use Rattle.lp_tool.specs.Causes.{AreFew, Causes, IsOfFile, IsOfWriting, IsPastReading, ReadsSource, StopsReading}
 use Rattle.lp_tool.specs.declared.command.Command.{Command}
-use Rattle.lp_tool.specs.declared.command.Command.TheVariants as asked
 use Rattle.lp_tool.specs.declared.file.Stop.{Stop}
 use Rattle.lp_tool.specs.declared.status.Status.{Status}
 use Rattle.lp_tool.specs.declared.status.Status.TheVariants as status

@@ -1,5 +1,5 @@
 -- The productions of a lowering, and the states of its tables, are never too many for the emission.
-use Rattle.std.proofs.Common.{◌≡◌, ℕ, suc, ◌+◌, ◌*◌, ◌≤◌, ◌||◌, Bool, true, false, cond, ◌⊎◌, ⊎_elim, List, [], ◌∷◌, ◌++◌, map, length, length-append, Option, None, Some, MatchOption, min, max, slice_get, ap, sym, subst, ◌∙◌, refl, arith}
+use Rattle.std.proofs.Common.{◌≡◌, ℕ, suc, ◌+◌, ◌*◌, ◌≤◌, ◌||◌, Bool, true, false, cond, ⊎_elim, List, [], ◌∷◌, ◌++◌, map, length, length-append, Option, None, Some, MatchOption, min, max, slice_get, ap, sym, ◌∙◌, refl, arith}
 use Rattle.std.specs.BTreeMap.{insert_entry, values}
 use Rattle.std.specs.List.{sum_by, flat_map}
 use Rattle.std.specs.Option.{option_map_or}
@@ -19,9 +19,9 @@ use Rattle.lp_lower.specs.ActionNumbers.{action_count, actions_in, first_action}
 use Rattle.lp_lower.specs.Choices.{choices}
 use Rattle.lp_lower.specs.Expansion.{all_sources, combined, expanded, expanded_all, expanded_from, inlines_after, options, rule_pieces, sources_of, terminal_pieces}
 use Rattle.lp_lower.specs.Naming.{target}
-use Rattle.lp_lower.specs.Pieces.{Piece, itself, chosen, combination_of}
+use Rattle.lp_lower.specs.Pieces.{itself, chosen, combination_of}
 use Rattle.lp_lower.specs.Productions.{put_all, nonterminal_entries, production_of, rule_data, rule_entries, rule_entry, start_data, start_entries, start_entry, start_name}
-use Rattle.lp_lower.specs.RightSides.{are_too_many, inline_sides, right_sides, rule_options, rule_sides, side_options, sides_after, sides_from, sides_with_start, terminal_options, too_many, too_many_after}
+use Rattle.lp_lower.specs.RightSides.{are_too_many, inline_sides, right_sides, rule_options, rule_sides, side_options, sides_after, sides_from, sides_with_start, terminal_options, too_many_after}
 use Rattle.lp_lower.specs.Causes.{IsAccepted}
 use Rattle.lp_lower.specs.Lowering.{IsLowering}
 use Rattle.lp_lower.specs.declared.combine.Combination.{Combination}

@@ -1,5 +1,5 @@
 -- The tables of a grammar are never why its emission is refused.
-use Rattle.std.proofs.Common.{◌≡◌, ◌⊎◌, ◌<◌, ◌≤◌, ℕ, IsTrue, List, [], Option, Some, None, IfSome, MatchOption, ⊎_elim, length, get_or, slice_get, subst, sym, refl, arith}
+use Rattle.std.proofs.Common.{◌≡◌, ◌<◌, ◌≤◌, ℕ, IsTrue, List, [], Option, Some, None, IfSome, MatchOption, ⊎_elim, length, get_or, slice_get, subst, sym, refl, arith}
 use Rattle.std.proofs.lemmas.Bool.Decides.{Decides-eqb}
 use Rattle.std.proofs.lemmas.Option.{slice_get_cases, slice_get_past}
 use Rattle.std.proofs.lemmas.Slice.Eq.{slice_eq-Decides}

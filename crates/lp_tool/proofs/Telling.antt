@@ -1,5 +1,5 @@
 -- From what is told of a grammar to what a call tells.
-use Rattle.std.proofs.Common.{◌≡◌, ◌≢◌, ◌⊎◌, ℕ, true, false, List, [], Option, Some, None, Result, Ok, Err, IfOk, unwrap_or, ⊎_elim, length, subst, sym, refl, ap}
+use Rattle.std.proofs.Common.{◌≡◌, ◌≢◌, ℕ, true, false, List, [], Option, Some, Result, Ok, Err, IfOk, unwrap_or, ⊎_elim, length, subst, sym, refl, ap}
 use Rattle.lp_emit.specs.Causes.{MayBeEmitted, Refuses}
 use Rattle.lp_emit.specs.Texts.{IsEmission}
 use Rattle.lp_emit.specs.declared.errors.EmitError.{EmitError}
@@ -19,7 +19,7 @@ use Rattle.lp_write.specs.declared.rust.Options.{Options}
 use Rattle.lp_tool.specs.Command.{looks}
 use Rattle.lp_tool.specs.Outputs.{IsReport, IsRunOutput, IsTailIn, first_count}
 use Rattle.lp_tool.specs.Causes.{IsOfFile, IsOfWriting, IsStop, Written}
-use Rattle.lp_tool.specs.Told.{AreTablesOrNone, Holds, IsAnswered, IsEmitted, IsMade, IsOfLowered, IsPrepared, IsRefusal, IsRefused, Tells, TellsOf, ToldOf, Wrote}
+use Rattle.lp_tool.specs.Told.{AreTablesOrNone, Holds, IsAnswered, IsEmitted, IsMade, IsOfLowered, IsPrepared, IsRefusal, Tells, ToldOf, Wrote}
 use Rattle.lp_tool.specs.declared.command.Command.{Command}
 use Rattle.lp_tool.specs.declared.command.Command.TheVariants as asked
 use Rattle.lp_tool.specs.declared.file.Stop.{Stop}

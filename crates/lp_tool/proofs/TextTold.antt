@@ -1,5 +1,5 @@
 -- What is told of the text of a file.
-use Rattle.std.proofs.Common.{◌≡◌, ◌≤◌, ℕ, List, length, Option, Some, None, IfSome, Result, Ok, Err, IfErr, IfOk, subst, sym}
+use Rattle.std.proofs.Common.{◌≡◌, ◌≤◌, ℕ, List, length, Option, Some, IfSome, Result, Ok, Err, IfErr, IfOk, subst, sym}
 use Rattle.lp_generated.specs.Generated.{grammar_text}
 use Rattle.lp_syntax.specs.declared.plain.PlainGrammar.{PlainGrammar}
 use Rattle.lp_tool.specs.Causes.{IsOfFile, IsOfReading, IsOfWriting}

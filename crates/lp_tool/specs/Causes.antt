@@ -1,5 +1,5 @@
 -- What each status of the tool tells of its words, its source and its sink.
-use Rattle.std.specs.Prelude.{◌≡◌, ◌≢◌, ℕ, ◌<◌, ◌≤◌, List, length, Option, Some, None}
+use Rattle.std.specs.Prelude.{◌≡◌, ◌≢◌, ℕ, ◌≤◌, List, length, Option, Some, None}
 use Rattle.lp_plain.specs.Front.{IsTooLong}
 use Rattle.lp_write.specs.Sinks.{Told, Took, Broke, Rose}
 use Rattle.lp_tool.specs.declared.command.Command.{Command}

@@ -1,8 +1,8 @@
-use Rattle.std.proofs.Common.{rules, ◌≡◌, ◌≤◌, ◌∙◌, ℕ, List, Option, IfErr, Some, length, refl, subst, sym}
+use Rattle.std.proofs.Common.{rules, ◌≡◌, ◌≤◌, ◌∙◌, IfErr, Some, length}
 use Rattle.lp_tool.specs.Causes.{IsOfReading}
 use Rattle.lp_tool.specs.Command.{command_of}
 use Rattle.lp_tool.specs.declared.command.Command.TheVariants as asked
-use Rattle.lp_tool.specs.LinesTold.{IsBeforeLines, IsOfNoLine}
+use Rattle.lp_tool.specs.LinesTold.{IsBeforeLines}
 use Rattle.lp_tool.proofs.Caused.{few, file_caused, past, past_reading, reading_caused, reads}
 use Rattle.lp_tool.proofs.LinesTold.{before_run_told, before_told, emit_told, make_told, run_told, told_of_source}
 use Rattle.lp_tool.proofs.Telling.{prepared_of}

@@ -1,4 +1,4 @@
-use Rattle.std.proofs.Common.{rules, IfErr, ◌∷◌, ◌++◌, ◌≡◌, ◌∙◌, codes, ap, subst, string_bytes}
+use Rattle.std.proofs.Common.{rules, IfErr, ◌∷◌, ◌++◌, ◌∙◌, codes, ap, subst, string_bytes}
 use Rattle.lp_tool.specs.LinesTold.{IsOfNoLine}
 use Rattle.lp_tool.specs.Outputs.{AreLinesOf}
 use Rattle.lp_tool.proofs.LinesTold.{read_told}
