@@ -55,22 +55,46 @@ pub fn example_of(alloc: Global, file: &str, changes: &str) -> Result<Option<Exa
 
 fn change(alloc: Global, example: &mut Example, line: &str) -> Result<(), AllocError> {
     let (word, rest) = line.split_once(' ').unwrap_or((line, ""));
-    let grammar = &mut example.grammar;
     match word {
-        "all" => grammar.algorithm.codegen = LrCodeGeneration::TestAll,
-        "nonterminal" => declare(alloc, grammar, rest)?,
-        "again" => repeat(alloc, grammar, rest)?,
-        "code" => recode(alloc, grammar, rest)?,
-        "regex" => add_token(alloc, grammar, rest, false)?,
-        "skip" => add_token(alloc, grammar, rest, true)?,
-        "no" if rest == "starts" => grammar.start_nonterminals.clear(),
-        "no" if rest == "lists" => example.tables.clear(),
+        "no" => empty(example, rest),
         "list" => example.tables.push(empty_list(alloc, rest)?)?,
+        "all" | "nonterminal" | "again" | "code" | "regex" | "skip" => {
+            change_grammar(alloc, &mut example.grammar, word, rest)?
+        }
         _ => {
             if let Some(table) = example.tables.get_mut(0) {
                 change_states(alloc, &mut table.states.0, word, rest)?;
             }
         }
+    }
+    Ok(())
+}
+
+/// Takes away all that is named.
+fn empty(example: &mut Example, what: &str) {
+    match what {
+        "starts" => example.grammar.start_nonterminals.clear(),
+        "lists" => example.tables.clear(),
+        _ => {
+            if let Some(table) = example.tables.get_mut(0) {
+                table.states.0.clear();
+            }
+        }
+    }
+}
+
+fn change_grammar(
+    alloc: Global,
+    grammar: &mut Grammar,
+    word: &str,
+    rest: &str,
+) -> Result<(), AllocError> {
+    match word {
+        "all" => grammar.algorithm.codegen = LrCodeGeneration::TestAll,
+        "nonterminal" => declare(alloc, grammar, rest)?,
+        "again" => repeat(alloc, grammar, rest)?,
+        "code" => recode(alloc, grammar, rest)?,
+        _ => add_token(alloc, grammar, rest, word == "skip")?,
     }
     Ok(())
 }
@@ -154,20 +178,15 @@ fn change_states(
     word: &str,
     rest: &str,
 ) -> Result<(), AllocError> {
-    match word {
-        "no" => states.clear(),
-        "states" => {
-            for _number in 0..number(rest).min(100) {
-                states.push(empty_state(alloc))?;
-            }
-        }
-        _ => {
-            if let Some(state) = states.get_mut(number(word)) {
-                change_state(alloc, state, rest)?;
-            }
+    if word == "states" {
+        for _number in 0..number(rest).min(100) {
+            states.push(empty_state(alloc))?;
         }
     }
-    Ok(())
+    match states.get_mut(number(word)) {
+        Some(state) => change_state(alloc, state, rest),
+        None => Ok(()),
+    }
 }
 
 fn empty_list(alloc: Global, name: &str) -> Result<StartStates, AllocError> {

@@ -6,7 +6,8 @@
 //! - `phantom`: the type and the expression of phantom data;
 //! - `machine`: the parameters of the machine, a line each: type parameters, fields and clauses;
 //! - `filter NAME..`: what is filtered by the types of these parameters: type parameters and clauses;
-//! - `type N M`: the type of so many states and productions.
+//! - `type N M`: the type of so many states and productions;
+//! - `successors N`: the states that follow state N.
 
 ghost use Rattle.std.specs.Prelude.{IsSome, IsTrue};
 ghost use Rattle.lp_codegen.specs.Printing.{start_number};
@@ -17,8 +18,8 @@ use crate::writers::{has, value};
 use lp_codegen::{CodeGenerator, ascent, parse_table};
 use lp_emit::fits::first_unfit;
 use lp_parts::{MachineParameters, filter_type_parameters_and_where_clauses, state_type};
-use lp_repr::Lr1State;
 use lp_repr::repr::{Grammar, NonterminalString, TypeRepr};
+use lp_repr::{Lr1State, successors};
 use lp_write::{MemorySink, RustWrite, WriteError};
 use std::alloc::{AllocError, Global};
 use std::fmt::Display;
@@ -86,6 +87,7 @@ pub fn print_part(
         "machine" => print_machine(alloc, &example.grammar, out),
         "filter" => print_filtered(alloc, words, &example.grammar, out),
         "type" => print_type(words, out),
+        "successors" => print_successors(alloc, words, example, out),
         _ => generate(alloc, call, words, example, start, out),
     }
 }
@@ -120,18 +122,20 @@ fn generate(
         "source" => generator.define_tokens(),
         "module" => generator.write_parse_mod(|inner| inner.define_tokens()),
         "refused" => generator.write_parse_mod(|_inner| Err(WriteError::Fault)),
-        "phantom" => {
-            let ty = generator.phantom_data_type()?;
-            let expression = generator.phantom_data_expr()?;
-            generator.out.line(ty.as_str())?;
-            generator.out.line(expression.as_str())?;
-            Ok(())
-        }
+        "phantom" => print_phantom(&mut generator),
         _ => {
             generator.end_parser_fn()?;
             Ok(())
         }
     }
+}
+
+fn print_phantom(generator: &mut CodeGenerator<'_, '_, MemorySink, ()>) -> Result<(), WriteError> {
+    let ty = generator.phantom_data_type()?;
+    let expression = generator.phantom_data_expr()?;
+    generator.out.line(ty.as_str())?;
+    generator.out.line(expression.as_str())?;
+    Ok(())
 }
 
 fn print_machine(
@@ -180,6 +184,18 @@ fn print_type(words: &str, out: &mut RustWrite<MemorySink>) -> Result<(), WriteE
     let (states, productions) = words.split_once(' ').unwrap_or((words, ""));
     out.line(state_type(number(states), number(productions)))?;
     Ok(())
+}
+
+fn print_successors(
+    alloc: Global,
+    words: &str,
+    example: &Example,
+    out: &mut RustWrite<MemorySink>,
+) -> Result<(), WriteError> {
+    match first_states(example).get(number(words)) {
+        Some(state) => print_each(alloc, successors(alloc, state)?.as_slice(), out),
+        None => Ok(()),
+    }
 }
 
 /// Prints a line for each value.

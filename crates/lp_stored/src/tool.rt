@@ -78,25 +78,26 @@ pub fn each_read(alloc: Global, file: &[u8]) -> Result<Answer, AllocError> {
     let mut wrong = 0usize;
     let reads = file.len().div_ceil(MOST).saturating_add(1);
     for number in 0..reads {
-        let reads = Reads {
+        let failing = Reads {
             failing: u64::try_from(number).ok(),
             ..WELL
         };
-        let (report, sink) = called(alloc, "run", file, &reads)?;
+        let (report, sink) = called(alloc, "run", file, &failing)?;
         let output = sink.into_bytes();
         if !matches!(report.status, Status::ReadFault) || !output.is_empty() {
             wrong = wrong.saturating_add(1);
         }
     }
-    counted(alloc, wrong, "reads")
+    Answer::counted(alloc, reads, wrong)
 }
 
 /// Where a write fails, that is told, and all before it was written.
 pub fn each_write(alloc: Global, file: &[u8]) -> Result<Answer, AllocError> {
     let (_, sink) = called(alloc, "run", file, &WELL)?;
     let whole = sink.into_bytes();
+    let writes = whole.len().div_ceil(MOST);
     let mut wrong = 0usize;
-    for number in 0..whole.len().div_ceil(MOST) {
+    for number in 0..writes {
         let words = format!(in alloc; "run fails={number}")?;
         let (report, sink) = called(alloc, words.as_str(), file, &WELL)?;
         let front = whole
@@ -107,7 +108,7 @@ pub fn each_write(alloc: Global, file: &[u8]) -> Result<Answer, AllocError> {
             wrong = wrong.saturating_add(1);
         }
     }
-    counted(alloc, wrong, "writes")
+    Answer::counted(alloc, writes, wrong)
 }
 
 /// Each front of a file is answered, and something is written exactly where all was done.
@@ -121,13 +122,7 @@ pub fn each_front(alloc: Global, file: &[u8]) -> Result<Answer, AllocError> {
             wrong = wrong.saturating_add(1);
         }
     }
-    counted(alloc, wrong, "fronts")
-}
-
-/// How many of the calls were answered otherwise than they have to be.
-fn counted(alloc: Global, wrong: usize, calls: &str) -> Result<Answer, AllocError> {
-    let end = format!(in alloc; "{wrong} of the {calls} aren't answered so")?;
-    Answer::ended(alloc, end.as_str())
+    Answer::counted(alloc, file.len(), wrong)
 }
 
 /// A file of one byte more than there may be.

@@ -28,6 +28,13 @@ impl Answer {
             output: String::new(alloc),
         })
     }
+
+    /// The answer that tells of how many calls there were, and how many of them were answered otherwise than
+    /// they have to be.
+    pub fn counted(alloc: Global, calls: usize, wrong: usize) -> Result<Answer, AllocError> {
+        let end = format!(in alloc; "{calls} calls, {wrong} answered otherwise")?;
+        Answer::ended(alloc, end.as_str())
+    }
 }
 
 /// The answer of this end, with what a sink took.
