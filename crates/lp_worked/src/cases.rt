@@ -2,7 +2,9 @@
 //! line `== NAME` and the line of its words. Then stand its parts, each behind a line `-- PART`:
 //!
 //! - `file`: the source's text;
+//! - `old`, `new`: what is changed in the printed text, and what stands there then;
 //! - `answers`: the answer, as `answers` puts it;
+//! - `bytes`: how many bytes are written;
 //! - `begins`: the lines with which the output begins;
 //! - `writes`: lines that stand in the output one after another.
 
@@ -15,6 +17,9 @@ pub struct Case<'t> {
     /// The words, with blanks between.
     pub words: &'t str,
     pub file: &'t str,
+    /// What is changed in the printed text; empty where nothing is.
+    pub old: &'t str,
+    pub new: &'t str,
     pub wants: Vec<Want<'t>>,
 }
 
@@ -22,6 +27,8 @@ pub struct Case<'t> {
 #[derive(Clone, Copy)]
 pub enum Want<'t> {
     Answers(&'t str),
+    /// A number of bytes, as a text.
+    Bytes(&'t str),
     Begins(&'t str),
     Writes(&'t str),
     /// A part of another name.
@@ -43,16 +50,18 @@ fn read_case(alloc: Global, call: &str) -> Result<Case<'_>, AllocError> {
     Ok(Case {
         name,
         words,
-        file: file_of(parts),
+        file: part_of(parts, "file"),
+        old: part_of(parts, "old"),
+        new: part_of(parts, "new"),
         wants: wants_of(alloc, parts)?,
     })
 }
 
-/// The source's text; the empty text where there is none.
-fn file_of(parts: &str) -> &str {
+/// The first part of a name; the empty text where there is none.
+fn part_of<'t>(parts: &'t str, name: &str) -> &'t str {
     for part in parts.split("\n-- ") {
         let (kind, content) = first_line(part);
-        if kind == "file" {
+        if kind == name {
             return content;
         }
     }
@@ -64,7 +73,7 @@ fn wants_of<'t>(alloc: Global, parts: &'t str) -> Result<Vec<Want<'t>>, AllocErr
     let mut wants = Vec::new(alloc);
     for part in parts.split("\n-- ") {
         let (kind, content) = first_line(part);
-        if kind != "file" {
+        if !matches!(kind, "file" | "old" | "new") {
             wants.push(wanted(kind, content))?;
         }
     }
@@ -74,6 +83,7 @@ fn wants_of<'t>(alloc: Global, parts: &'t str) -> Result<Vec<Want<'t>>, AllocErr
 fn wanted<'t>(kind: &str, content: &'t str) -> Want<'t> {
     match kind {
         "answers" => Want::Answers(content),
+        "bytes" => Want::Bytes(content),
         "begins" => Want::Begins(content),
         "writes" => Want::Writes(content),
         _ => Want::Unknown,

@@ -1,0 +1,259 @@
+//! Grammars with their states, and what is changed in them, a line each.
+//!
+//! In the grammar:
+//!
+//! - `no starts`; `all back ends`: the code of all back ends is asked for;
+//! - `nonterminal NAME`: a further one, without productions; `again NAME`: its first production stands twice;
+//! - `code N CODE`: the code of a user's action;
+//! - `regex TEXT`, `skip TEXT`: a regular expression of the tokens, and one whose matches are skipped.
+//!
+//! In the lists of states, one per start: `no lists`; `list NAME`: a further one, of no states.
+//!
+//! In the states of the first list:
+//!
+//! - `no states`; `states N`: further states, with nothing in them;
+//! - `N without items`, `N without item P`, `N without shifts`, `N without reductions`, `N without gotos`: what
+//!   state N lacks, where P is a production;
+//! - `N item P I T..`: production P with the dot before symbol I, on these terminals, where `$` is the end of input;
+//! - `N shift T M`, `N goto K M`: to state M on terminal T, after nonterminal K;
+//! - `N reduce P T..`: by production P on these terminals.
+
+use crate::cases::number;
+use lp_plain::{cut_file, lowered_of, tables_of};
+use lp_repr::parse_tree::Visibility;
+use lp_repr::repr::{
+    ActionFnDefnKind, Grammar, InternToken, LrCodeGeneration, MatchEntry, NonterminalData,
+    NonterminalString, TypeRepr,
+};
+use lp_repr::{Item, Items, Lr1State, StartStates, Text, Token};
+use std::alloc::{AllocError, Global};
+use std::collections::BTreeMap;
+
+/// A grammar and its states.
+#[derive(Drop)]
+pub struct Example {
+    pub grammar: Grammar,
+    pub tables: Vec<StartStates>,
+}
+
+/// The grammar of a file with its states, changed; no states where it has no tables.
+pub fn example_of(alloc: Global, file: &str, changes: &str) -> Result<Option<Example>, AllocError> {
+    let (text, _) = cut_file(file.as_bytes());
+    let Ok((_, grammar)) = lowered_of(alloc, text) else {
+        return Ok(None);
+    };
+    let tables = match tables_of(alloc, &grammar) {
+        Ok(tables) => tables,
+        Err(_) => Vec::new(alloc),
+    };
+    let mut example = Example { grammar, tables };
+    for line in changes.lines() {
+        change(alloc, &mut example, line)?;
+    }
+    Ok(Some(example))
+}
+
+fn change(alloc: Global, example: &mut Example, line: &str) -> Result<(), AllocError> {
+    let (word, rest) = line.split_once(' ').unwrap_or((line, ""));
+    match word {
+        "no" => empty(example, rest),
+        "list" => example.tables.push(empty_list(alloc, rest)?)?,
+        "all" | "nonterminal" | "again" | "code" | "regex" | "skip" => {
+            change_grammar(alloc, &mut example.grammar, word, rest)?
+        }
+        _ => {
+            if let Some(table) = example.tables.get_mut(0) {
+                change_states(alloc, &mut table.states.0, word, rest)?;
+            }
+        }
+    }
+    Ok(())
+}
+
+/// Takes away all that is named.
+fn empty(example: &mut Example, what: &str) {
+    match what {
+        "starts" => example.grammar.start_nonterminals.clear(),
+        "lists" => example.tables.clear(),
+        _ => {
+            if let Some(table) = example.tables.get_mut(0) {
+                table.states.0.clear();
+            }
+        }
+    }
+}
+
+fn change_grammar(
+    alloc: Global,
+    grammar: &mut Grammar,
+    word: &str,
+    rest: &str,
+) -> Result<(), AllocError> {
+    match word {
+        "all" => grammar.algorithm.codegen = LrCodeGeneration::TestAll,
+        "nonterminal" => declare(alloc, grammar, rest)?,
+        "again" => repeat(alloc, grammar, rest)?,
+        "code" => recode(alloc, grammar, rest)?,
+        _ => add_token(alloc, grammar, rest, word == "skip")?,
+    }
+    Ok(())
+}
+
+fn named(alloc: Global, name: &str) -> Result<NonterminalString, AllocError> {
+    Ok(NonterminalString(Text::from_str(alloc, name)?))
+}
+
+/// Adds a nonterminal of the type `()`.
+fn declare(alloc: Global, grammar: &mut Grammar, name: &str) -> Result<(), AllocError> {
+    let data = NonterminalData {
+        visibility: Visibility::Priv,
+        productions: Items::new(alloc),
+    };
+    let unit = TypeRepr::Tuple(Vec::new(alloc));
+    grammar.nonterminals.insert(named(alloc, name)?, data)?;
+    grammar
+        .types
+        .nonterminals
+        .insert(named(alloc, name)?, unit)?;
+    Ok(())
+}
+
+/// Puts the first production of a nonterminal behind its others once more.
+fn repeat(alloc: Global, grammar: &mut Grammar, name: &str) -> Result<(), AllocError> {
+    let name = named(alloc, name)?;
+    let Some(data) = grammar.nonterminals.get(&name) else {
+        return Ok(());
+    };
+    let mut productions = data.productions.0.clone()?;
+    if let Some(first) = data.productions.as_slice().first() {
+        productions.push(first.clone()?)?;
+    }
+    let data = NonterminalData {
+        visibility: Visibility::Priv,
+        productions: Items(productions),
+    };
+    grammar.nonterminals.insert(name, data)?;
+    Ok(())
+}
+
+/// Changes the code of an action.
+fn recode(alloc: Global, grammar: &mut Grammar, rest: &str) -> Result<(), AllocError> {
+    let (action, text) = rest.split_once(' ').unwrap_or((rest, ""));
+    if let Some(action) = grammar.action_fn_defns.0.get_mut(number(action)) {
+        if let ActionFnDefnKind::User {
+            arg_patterns: _,
+            arg_types: _,
+            code,
+        } = &mut action.kind
+        {
+            *code = Text::from_str(alloc, text)?;
+        }
+    }
+    Ok(())
+}
+
+/// Adds a regular expression of the tokens.
+fn add_token(
+    alloc: Global,
+    grammar: &mut Grammar,
+    regex: &str,
+    skip: bool,
+) -> Result<(), AllocError> {
+    let regex = Text::from_str(alloc, regex)?;
+    let entry = MatchEntry { regex, skip };
+    let mut entries = match grammar.intern_token.take() {
+        Some(tokens) => tokens.match_entries.0,
+        None => Vec::new(alloc),
+    };
+    entries.push(entry)?;
+    grammar.intern_token = Some(InternToken {
+        match_entries: Items(entries),
+    });
+    Ok(())
+}
+
+fn change_states(
+    alloc: Global,
+    states: &mut Vec<Lr1State>,
+    word: &str,
+    rest: &str,
+) -> Result<(), AllocError> {
+    if word == "states" {
+        for _number in 0..number(rest).min(100) {
+            states.push(empty_state(alloc))?;
+        }
+    }
+    match states.get_mut(number(word)) {
+        Some(state) => change_state(alloc, state, rest),
+        None => Ok(()),
+    }
+}
+
+fn empty_list(alloc: Global, name: &str) -> Result<StartStates, AllocError> {
+    Ok(StartStates {
+        start: named(alloc, name)?,
+        states: Items::new(alloc),
+    })
+}
+
+fn empty_state(alloc: Global) -> Lr1State {
+    Lr1State {
+        items: Items::new(alloc),
+        shifts: BTreeMap::new(alloc),
+        reductions: Items::new(alloc),
+        gotos: BTreeMap::new(alloc),
+    }
+}
+
+fn change_state(alloc: Global, state: &mut Lr1State, line: &str) -> Result<(), AllocError> {
+    let (word, rest) = line.split_once(' ').unwrap_or((line, ""));
+    let (first, others) = rest.split_once(' ').unwrap_or((rest, ""));
+    match word {
+        "shift" => {
+            state.shifts.insert(number(first), number(others))?;
+        }
+        "goto" => {
+            state.gotos.insert(number(first), number(others))?;
+        }
+        "reduce" => {
+            let tokens = tokens(alloc, others)?;
+            state.reductions.0.push((tokens, number(first)))?;
+        }
+        "item" => state.items.0.push(item(alloc, first, others)?)?,
+        _ => remove(state, first, number(others)),
+    }
+    Ok(())
+}
+
+/// Takes away what is named.
+fn remove(state: &mut Lr1State, what: &str, production: usize) {
+    match what {
+        "items" => state.items.0.clear(),
+        "item" => state.items.0.retain(|item| item.production != production),
+        "shifts" => state.shifts.clear(),
+        "reductions" => state.reductions.0.clear(),
+        "gotos" => state.gotos.clear(),
+        _ => {}
+    }
+}
+
+/// An item of a production, by the place of its dot and its lookaheads.
+fn item(alloc: Global, production: &str, words: &str) -> Result<Item, AllocError> {
+    let (index, lookahead) = words.split_once(' ').unwrap_or((words, ""));
+    Ok(Item {
+        production: number(production),
+        index: number(index),
+        lookahead: tokens(alloc, lookahead)?,
+    })
+}
+
+fn tokens(alloc: Global, words: &str) -> Result<Items<Token>, AllocError> {
+    let mut tokens = Vec::new(alloc);
+    for word in words.split_whitespace() {
+        tokens.push(match word {
+            "$" => Token::Eof,
+            _ => Token::Terminal(number(word)),
+        })?;
+    }
+    Ok(Items(tokens))
+}

@@ -1,0 +1,48 @@
+//! The emission of all parsers.
+
+use crate::changes::Example;
+use crate::writers::{Answer, answer_by, options_of, sink_of};
+use lp_emit::{EmitError, emit_parsers};
+use std::alloc::{AllocError, Global};
+
+/// What the emission answers, and what it writes.
+pub fn emitted(alloc: Global, words: &str, example: &Example) -> Result<Answer, AllocError> {
+    let mut sink = sink_of(alloc, words)?;
+    let options = options_of(words);
+    let tables = example.tables.as_slice();
+    let end = match emit_parsers(alloc, &example.grammar, tables, &options, &mut sink) {
+        Ok(()) => String::from_str(alloc, "ok")?,
+        Err(error) => told(alloc, &error)?,
+    };
+    answer_by(alloc, end.as_str(), sink)
+}
+
+/// The text of all parsers.
+pub fn text_of(alloc: Global, words: &str, example: &Example) -> Result<String, AllocError> {
+    let mut sink = sink_of(alloc, "")?;
+    let options = options_of(words);
+    let tables = example.tables.as_slice();
+    let _answer = emit_parsers(alloc, &example.grammar, tables, &options, &mut sink);
+    Ok(answer_by(alloc, "", sink)?.output)
+}
+
+/// A refusal with what it tells.
+fn told(alloc: Global, error: &EmitError) -> Result<String, AllocError> {
+    match error {
+        EmitError::BadGrammar { rule, place } => {
+            format!(in alloc; "{error}, rule {rule}, place {place}")
+        }
+        EmitError::NameClash { first, second } => {
+            format!(in alloc; "{error}, {first} and {second}")
+        }
+        EmitError::BadTables { start, state, rule } => {
+            format!(in alloc; "{error}, start {start}, state {state}, rule {rule}")
+        }
+        EmitError::BadText { place, byte } => {
+            let kind = place.kind;
+            let number = place.number;
+            format!(in alloc; "{error}, {kind:?} {number}, byte {byte}")
+        }
+        error => error.to_string(alloc),
+    }
+}
