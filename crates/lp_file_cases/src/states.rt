@@ -23,18 +23,25 @@ fn shown_starts(alloc: Global, grammar: &Grammar) -> Result<String, AllocError> 
         write!(out, "states of start {start}\n")?;
         match build_states(alloc, grammar, start) {
             Ok(states) => show_states(&mut out, grammar, states.as_slice())?,
-            Err(BuildFault::Conflict { path, token }) => {
-                out.push_str("  conflict after")?;
-                show_symbols(&mut out, path.as_slice())?;
-                out.push_str(" on")?;
-                show_token(&mut out, grammar, token)?;
-                out.push_str("\n")?;
-            }
-            Err(BuildFault::TooManyStates { .. }) => out.push_str("  too many\n")?,
-            Err(BuildFault::Memory) => return Err(AllocError),
+            Err(fault) => show_fault(&mut out, grammar, &fault)?,
         }
     }
     Ok(out)
+}
+
+/// Why a start has no states.
+fn show_fault(out: &mut String, grammar: &Grammar, fault: &BuildFault) -> Result<(), AllocError> {
+    match fault {
+        BuildFault::Conflict { path, token } => {
+            out.push_str("  conflict after")?;
+            show_symbols(out, path.as_slice())?;
+            out.push_str(" on")?;
+            show_token(out, grammar, *token)?;
+            out.push_str("\n")
+        }
+        BuildFault::TooManyStates { .. } => out.push_str("  too many\n"),
+        BuildFault::Memory => Err(AllocError),
+    }
 }
 
 /// Per state its items, shifts, gotos and reductions.
