@@ -33,7 +33,8 @@ use Rattle.lp_laws.specs.TemplateTests.{is_code, has_code, is_code_only, are_sou
 use Rattle.lp_laws.specs.WellFormed.{IsCodeText, StepFits, IsWellPart, IsWell, is_shared}
 use Rattle.lp_laws.specs.AsRead.{code_read, content_read, forest_read, IsRead}
 use Rattle.lp_laws.proofs.Lining.{chars_blank}
-use Rattle.lp_laws.specs.Laws.{text_of, ReadsBack, CompactReadsBack}
+use Rattle.lp_laws.specs.Laws.{text_of, CodeIsLevel, ReadsBack}
+use Rattle.lp_laws.specs.Levels.{is_level}
 use Rattle.lp_laws.proofs.Fronts.{chars_some}
 use Rattle.lp_laws.proofs.Sound.{IsPrefix, word_before}
 use Rattle.lp_laws.proofs.Templates.{templates_sound, code_part}
@@ -41,6 +42,7 @@ use Rattle.lp_laws.proofs.Forests.{no_trees}
 use Rattle.lp_laws.proofs.Own.{ready_same, Texts}
 use Rattle.lp_laws.proofs.Steps.{Closing, any_code, no_class_none}
 use Rattle.lp_laws.proofs.Whole.{TreeOk, Each, part_same, trees_read, steps_read}
+use Rattle.lp_laws.proofs.Levelled.{EachLevel, code_lines_are, part_level, whole_level}
 
 -- user code
 feed_off : (text : List ℕ) → without_feed (text ++ 10 ∷ []) ≡ text
@@ -148,9 +150,7 @@ unfolding step_lines printed
 code_step options prefix c read total i step.Code pieces f text tail off k e fits h is closing =
     let none : f ≡ bare = no_trees f (no_class_none ((step.Code, pieces) ∷ []) (parts_in f) refl h) in
     let w : Bool = options.whitespace in
-    let lines_are : step_lines options prefix c total ((step.Code, pieces) ∷ []) (printed options prefix f) ≡ code_lines (hole c 0) =
-    ap (λ x. step_lines options prefix c total ((step.Code, pieces) ∷ []) (printed options prefix x)) none
-    ∙ append-nil (code_lines (hole c 0) ++ []) ∙ append-nil (code_lines (hole c 0)) in
+    let lines_are = code_lines_are options prefix c total pieces f none in
     let code : IsCode text (hole read 0) tail =
     subst (λ x. IsCode text x tail) (sym e) (printed_code options i (hole c 0) text tail off fits (is ∙ ap (λ x. lines_bytes w i x ++ tail) lines_are) closing) in
     subst (λ x. Reads prefix (steps read 0 ((step.Code, pieces) ∷ []) (forest_read w x)) text tail) (sym none)
@@ -275,15 +275,30 @@ program_read : (w : Bool) (f : Forest) → IsProgram f → IsProgram (forest_rea
 program_read w bare p = p
 program_read w (tree c below after) p = part_same w c ∙ p
 
+-- the level of each part, and of a whole program
+each_level : (options : Options) (prefix : List ℕ) (f : Forest) → Few f → IsWell prefix f → EachLevel options prefix f
+each_level options prefix bare few w = tt
+each_level options prefix (tree c below after) few w =
+    (part_level options prefix c below few.0 w.0 (each_level options prefix below few.1 w.1), each_level options prefix after few.2 w.2)
+
+level_within : (options : Options) (prefix : List ℕ) (es : List Entry) → IsProgram (whole es) → EachLevel options prefix (whole es) → is_level options prefix (whole es) ≡ true
+level_within options prefix [] p e = absurd p
+level_within options prefix (x ∷ es) p e = whole_level options prefix (content x) (forest es) p e.0
+
+pub code_is_level : CodeIsLevel
+code_is_level options program well =
+    let es : List Entry = program.entries.items in
+    level_within options program.prefix es well.first (each_level options program.prefix (whole es) (few_whole es) well.trees)
+
 -- the law
 pub reads_back : ReadsBack
-reads_back options program read level well alike =
+reads_back options program read well alike =
     let prefix : List ℕ = program.prefix in
     let f : Forest = whole program.entries.items in
     let w : Bool = options.whitespace in
     let is : IsPrefix prefix = prefix_is prefix well.prefix_fits well.prefix_utf8 in
     let text : List ℕ = text_of options program in
-    let r = trees_read options prefix f 0 text [] (each_well options prefix f (few_whole program.entries.items) is well.trees) level (ap settled (sym (append-nil text))) (λ a. absurd (no_code_on_top program.entries.items well.first a)) in
+    let r = trees_read options prefix f 0 text [] (each_well options prefix f (few_whole program.entries.items) is well.trees) (λ on. code_is_level options program well) (ap settled (sym (append-nil text))) (λ a. absurd (no_code_on_top program.entries.items well.first a)) in
     record {
       rest = r.rest;
       prefix_fits = ap is_prefix alike.prefix ∙ well.prefix_fits;
@@ -291,8 +306,3 @@ reads_back options program read level well alike =
       reads = subst (λ p. Reads p (trees (whole read.entries.items)) text r.rest) (sym alike.prefix) (subst (λ x. Reads prefix (trees x) text r.rest) (sym alike.trees) r.reads);
       nothing_left = r.same ∙ settled_none;
     }
-
--- without whitespace no indent is printed
-pub compact_reads_back : CompactReadsBack
-compact_reads_back options program read off well alike =
-    reads_back options program read (λ on. absurd (both_ways options.whitespace off on)) well (subst (λ w. IsRead w program read) (sym off) alike)

@@ -1,5 +1,5 @@
 -- What the laws say: printed lines, tables and programs are read as what they were.
-use Rattle.std.specs.Prelude.{◌≡◌, ℕ, ℤ, ◌^◌, ◌<◌, Bool, true, false, List, ◌∷◌, ◌++◌, length, replicate, All, Some, FitsSigned}
+use Rattle.std.specs.Prelude.{◌≡◌, ℕ, ℤ, ◌^◌, ◌<◌, Bool, true, List, ◌∷◌, ◌++◌, length, replicate, All, Some, FitsSigned}
 use Rattle.std.specs.Int.{w32}
 use Rattle.lp_tree.specs.declared.tree.Program.{Program}
 use Rattle.lp_write.specs.Lines.{Line, line_bytes, lines_bytes}
@@ -33,11 +33,13 @@ TablesComeBack = (options : Options) (indent blanks : ℕ) (numbers : List ℤ) 
 abbrev pub text_of : Options → Program → List ℕ
 text_of options program = lines_bytes options.whitespace 0 (lines options program)
 
--- a program that is well formed reads as it is, with comments and without; where whitespace is on, its user code is to
--- stand at the indent of a function's body
+-- a program that is well formed reads as it is, whatever the options
 abbrev pub ReadsBack : Type 0
-ReadsBack = (options : Options) (program read : Program) → (options.whitespace ≡ true → is_level options program.prefix (whole program.entries.items) ≡ true) → IsWellFormed program →
-    IsRead options.whitespace program read → ReadsAs (text_of options program) read
+ReadsBack = (options : Options) (program read : Program) → IsWellFormed program → IsRead options.whitespace program read → ReadsAs (text_of options program) read
+
+-- its user code is printed at the indent of a function's body, and leaves it so
+abbrev pub CodeIsLevel : Type 0
+CodeIsLevel = (options : Options) (program : Program) → IsWellFormed program → is_level options program.prefix (whole program.entries.items) ≡ true
 
 -- each program has one as which it is read
 abbrev pub EachIsRead : Type 0
@@ -46,7 +48,3 @@ EachIsRead = (whitespace : Bool) (program : Program) → (read : Program) × IsR
 -- and its user code is the same up to norm
 abbrev pub SameToNorm : Type 0
 SameToNorm = (whitespace : Bool) (code : List ℕ) → norm_of (code_read whitespace code) ≡ norm_of code
-
--- a program that is well formed, printed without whitespace, reads as it is, with comments and without
-abbrev pub CompactReadsBack : Type 0
-CompactReadsBack = (options : Options) (program read : Program) → options.whitespace ≡ false → IsWellFormed program → IsRead false program read → ReadsAs (text_of options program) read

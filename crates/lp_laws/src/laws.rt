@@ -1,6 +1,6 @@
 //! Laws between the printing and the reading of programs.
 
-ghost use Rattle.lp_laws.specs.Laws.{LinesComeBack, OthersDont, TablesComeBack, ReadsBack, EachIsRead, SameToNorm, CompactReadsBack};
+ghost use Rattle.lp_laws.specs.Laws.{LinesComeBack, OthersDont, TablesComeBack, ReadsBack, CodeIsLevel, EachIsRead, SameToNorm};
 
 /// A printed line that counts is read as it is, whatever its indent. One that is empty or a comment
 /// is passed over.
@@ -15,16 +15,11 @@ pub fn tables()
 {}
 
 /// The text of a program that is well formed reads as that program, user code up to `norm`, whatever
-/// the options: comments and whitespace change the text and not the program. Where whitespace is on,
-/// its user code is to stand at the indent of a function's body.
+/// the options: comments and whitespace change the text and not the program. All its user code is
+/// printed at the indent of a function's body.
 pub fn programs()
     ensures text { ReadsBack }
+    ensures level { CodeIsLevel }
     ensures read { EachIsRead }
     ensures codes { SameToNorm }
-{}
-
-/// The text of a program that is well formed, printed without whitespace, reads as that program:
-/// comments change the text and not the program.
-pub fn compact_programs()
-    ensures { CompactReadsBack }
 {}
