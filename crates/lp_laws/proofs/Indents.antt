@@ -13,14 +13,14 @@ use Rattle.lp_form.specs.declared.template.Slot.{Slot}
 use Rattle.lp_form.specs.declared.template.Slot.TheVariants.{Nothing, Prefix, Hole}
 use Rattle.lp_form.specs.declared.template.Step.{Step}
 use Rattle.lp_form.specs.declared.template.Step.TheVariants as step
-use Rattle.lp_write.specs.Lines.{Line, closes, opens, lowered, raised, indent_after, indent_after_all}
+use Rattle.lp_write.specs.Lines.{Line, closes, lowered, raised, indent_after, indent_after_all}
 use Rattle.lp_write.specs.Lines.Line.{line, verbatim}
 use Rattle.lp_write.specs.declared.rust.Options.{Options}
 use Rattle.lp_spelling.specs.Fillings.{has_shape, line_part, Fits, Fills}
 use Rattle.lp_spelling.specs.LineReading.{kind_of}
 use Rattle.lp_spelling.specs.Lines.{slot_text, line_of}
 use Rattle.lp_program.specs.OwnLines.{hole, spelled, note_lines, code_lines, own_lines}
-use Rattle.lp_program.specs.TableRows.{commented, entry_line, entry_lines, row_lines, no_note, last_lines, rows_from, table_lines}
+use Rattle.lp_program.specs.TableRows.{commented, entry_line, entry_lines, row_lines, no_note, rows_from, table_lines}
 use Rattle.lp_program.specs.Trees.{Content, Note}
 use Rattle.lp_laws.specs.LineTexts.{ends_open}
 use Rattle.lp_laws.specs.LineTests.{next_so}

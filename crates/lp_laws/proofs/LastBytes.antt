@@ -1,12 +1,12 @@
 -- The last bytes of texts: those that open no bracket.
-use Rattle.std.proofs.Common.{◌≡◌, ℕ, ◌+◌, ◌-◌, ◌==◌, ◌<◌, ◌≤◌, zero, suc, Bool, true, false, cond, ◌&&◌, ◌||◌, List, [], ◌∷◌, ◌++◌, length, get_or, replicate, Option, Some, None, refl, sym, ap, ◌∙◌, subst, arith, eqb, inl, inr, ◌⊎◌, append-nil, length-append}
+use Rattle.std.proofs.Common.{◌≡◌, ℕ, ◌-◌, ◌==◌, ◌<◌, ◌≤◌, zero, suc, true, false, cond, ◌||◌, List, [], ◌∷◌, ◌++◌, length, get_or, replicate, Option, Some, None, refl, ap, ◌∙◌, subst, arith, eqb, inl, inr, ◌⊎◌, append-nil, length-append}
 use Rattle.std.proofs.Math.Dec.{leb}
 use Rattle.std.proofs.Math.Seq.{get_or-append_right}
 use Rattle.std.specs.List.{list_all}
 use Rattle.std.proofs.lemmas.Bool.{and_parts, or_cases, cond_both, eqb-true, leb-true, false_from_ne_true, both_ways}
 use Rattle.lp_tok.specs.Signs.{quote, apostrophe, backslash}
 use Rattle.lp_tok.specs.Scans.{from_char, from_unescaped, past}
-use Rattle.lp_texts.specs.Quotes.{Piece, Quote, Unended, Single, Nothing, goes_on, after_character, quote_piece, character_piece, apostrophe_piece, piece}
+use Rattle.lp_texts.specs.Quotes.{Piece, Quote, Unended, Single, goes_on, after_character, quote_piece, character_piece, apostrophe_piece, piece}
 use Rattle.lp_texts.specs.Brackets as bracket
 use Rattle.lp_texts.specs.Brackets.{closer_of, open_after, Onward, step_over, Leads, leads_none}
 use Rattle.lp_texts.specs.OneLine.{IsOneLine}

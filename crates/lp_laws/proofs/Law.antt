@@ -14,13 +14,13 @@ use Rattle.lp_form.specs.declared.template.Step.TheVariants as step
 use Rattle.lp_tok.specs.Cut.{StopsAt, IsEnder, balance}
 use Rattle.lp_tok.specs.CodePieces.{kind_of}
 use Rattle.lp_tok.specs.Cut.Splits.{splits_none, splits_one}
-use Rattle.lp_write.specs.Lines.{blanks, lines_bytes}
+use Rattle.lp_write.specs.Lines.{blanks, lines_bytes, indent_after_all}
 use Rattle.lp_write.specs.Lines.Line.{verbatim}
 use Rattle.lp_write.specs.declared.rust.Options.{Options}
 use Rattle.lp_spelling.specs.Counting.{settled}
 use Rattle.lp_program.specs.CodeReading.{IsCode, without_feed}
 use Rattle.lp_program.specs.OwnLines.{hole, code_lines}
-use Rattle.lp_program.specs.Printed.{step_lines, printed}
+use Rattle.lp_program.specs.Printed.{step_lines, printed, list_lines}
 use Rattle.lp_program.specs.Reads.{parts_in, hole_count, KindsFill, Reads, trees, steps, is_prefix, IsProgram}
 use Rattle.lp_program.specs.Reads.Reads.{no_tree, no_step, one_step}
 use Rattle.lp_program.specs.Trees.{Content, Forest, content, forest, forest_within, note, tree_count, whole}
@@ -31,9 +31,9 @@ use Rattle.lp_repr.specs.Names.{same_text}
 use Rattle.lp_spelling.proofs.Counting.{settled_none}
 use Rattle.lp_laws.specs.TemplateTests.{is_code, has_code, is_code_only, are_sound}
 use Rattle.lp_laws.specs.WellFormed.{IsCodeText, StepFits, IsWellPart, IsWell, is_shared}
-use Rattle.lp_laws.specs.AsRead.{code_read, content_read, forest_read, IsRead}
+use Rattle.lp_laws.specs.AsRead.{code_read, content_read, forest_read}
 use Rattle.lp_laws.proofs.Lining.{chars_blank}
-use Rattle.lp_laws.specs.Laws.{text_of, CodeIsLevel, ReadsBack}
+use Rattle.lp_laws.specs.Laws.{text_of, CodeIsLevel, IndentReturns, ReadsBack}
 use Rattle.lp_laws.specs.Levels.{is_level}
 use Rattle.lp_laws.proofs.Fronts.{chars_some}
 use Rattle.lp_laws.proofs.Sound.{IsPrefix, word_before}
@@ -42,7 +42,7 @@ use Rattle.lp_laws.proofs.Forests.{no_trees}
 use Rattle.lp_laws.proofs.Own.{ready_same, Texts}
 use Rattle.lp_laws.proofs.Steps.{Closing, any_code, no_class_none}
 use Rattle.lp_laws.proofs.Whole.{TreeOk, Each, part_same, trees_read, steps_read}
-use Rattle.lp_laws.proofs.Levelled.{EachLevel, code_lines_are, part_level, whole_level}
+use Rattle.lp_laws.proofs.Levelled.{EachLevel, code_lines_are, part_level, whole_level, whole_back}
 
 -- user code
 feed_off : (text : List ℕ) → without_feed (text ++ 10 ∷ []) ≡ text
@@ -289,6 +289,15 @@ pub code_is_level : CodeIsLevel
 code_is_level options program well =
     let es : List Entry = program.entries.items in
     level_within options program.prefix es well.first (each_level options program.prefix (whole es) (few_whole es) well.trees)
+
+back_within : (options : Options) (prefix : List ℕ) (es : List Entry) → IsProgram (whole es) → EachLevel options prefix (whole es) → indent_after_all 0 (list_lines options prefix es) ≡ 0
+back_within options prefix [] p e = absurd p
+back_within options prefix (x ∷ es) p e = whole_back options prefix (content x) (forest es) p e.0
+
+pub indent_returns : IndentReturns
+indent_returns options program well =
+    let es : List Entry = program.entries.items in
+    back_within options program.prefix es well.first (each_level options program.prefix (whole es) (few_whole es) well.trees)
 
 -- the law
 pub reads_back : ReadsBack

@@ -1,5 +1,5 @@
 -- Every part keeps its level, and which parts a step takes of those that don't leave the indent as it was.
-use Rattle.std.proofs.Common.{◌≡◌, true, false, ◌||◌, refl}
+use Rattle.std.proofs.Common.{◌≡◌, true, false, refl}
 use Rattle.std.proofs.lemmas.Bool.{or_left, or_right, both_ways}
 use Rattle.lp_form.specs.Templates.{steps_of, holes_of}
 use Rattle.lp_form.specs.Classes.{members_of}
@@ -8,7 +8,6 @@ use Rattle.lp_form.specs.declared.class.Class.TheVariants as class
 use Rattle.lp_form.specs.declared.part.Part.{Part}
 use Rattle.lp_form.specs.declared.part.Part.TheVariants as part
 use Rattle.lp_form.specs.declared.template.Step.{Step}
-use Rattle.lp_form.specs.declared.template.Step.TheVariants as step
 use Rattle.lp_program.specs.Printed.{is_member, takes}
 use Rattle.lp_laws.specs.LevelTests.{rises, falls, is_outer, step_rises, class_falls, takes_outer, keeps_level}
 

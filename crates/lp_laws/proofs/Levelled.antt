@@ -1,5 +1,5 @@
 -- Each part leaves the indent as its template says, and user code stands at the indent 4.
-use Rattle.std.proofs.Common.{◌≡◌, ℕ, ◌+◌, ◌-◌, ◌*◌, ◌^◌, ◌==◌, ◌<◌, ◌≤◌, zero, suc, Bool, true, false, not, ◌&&◌, ◌||◌, if◌then◌else◌, List, [], ◌∷◌, ◌++◌, length, take, drop, All, refl, sym, ap, ◌∙◌, subst, arith, eq-eqb, inl, inr, ⊎_elim, append-nil}
+use Rattle.std.proofs.Common.{◌≡◌, ℕ, ◌+◌, ◌-◌, ◌*◌, ◌^◌, ◌==◌, ◌<◌, ◌≤◌, zero, suc, Bool, true, false, not, ◌&&◌, ◌||◌, if◌then◌else◌, List, [], ◌∷◌, ◌++◌, length, refl, sym, ap, ◌∙◌, subst, arith, eq-eqb, inl, inr, ⊎_elim, append-nil}
 use Rattle.std.proofs.Math.Dec.{leb}
 use Rattle.std.specs.List.{list_all}
 use Rattle.std.proofs.lemmas.Bool.{and_parts, and_from, or_cases, or_left, or_right, cases_Bool, cond-true, cond-false, eqb-true, leb-true, not-true, not_from_false, both_ways}
@@ -14,15 +14,14 @@ use Rattle.lp_write.specs.Lines.{Line, indent_after_all}
 use Rattle.lp_write.specs.declared.rust.Options.{Options}
 use Rattle.lp_write.proofs.Writing.{indent-append}
 use Rattle.lp_program.specs.OwnLines.{hole, code_lines, own_lines}
-use Rattle.lp_program.specs.Printed.{Printed, takes, takes_one, all_lines, step_lines, printed}
-use Rattle.lp_program.specs.Reads.{parts_in, may_have, IsProgram}
-use Rattle.lp_program.specs.Trees.{Content, Forest, tree_count, whole}
+use Rattle.lp_program.specs.Printed.{takes, takes_one, all_lines, step_lines, printed}
+use Rattle.lp_program.specs.Reads.{parts_in, may_have}
+use Rattle.lp_program.specs.Trees.{Content, Forest, tree_count}
 use Rattle.lp_program.specs.Trees.Forest.{bare, tree}
-use Rattle.lp_tree.specs.declared.tree.Entry.{Entry}
 use Rattle.lp_laws.specs.TemplateTests.{is_code, has_code, is_code_only, is_class, is_one, are_sound}
-use Rattle.lp_laws.specs.LevelTests.{rises, falls, is_outer, one_if, step_rises, class_falls, step_falls, takes_outer, Level, own_fits, own_level, class_fits, class_level, step_fits, step_level, are_level}
+use Rattle.lp_laws.specs.LevelTests.{rises, falls, is_outer, one_if, step_rises, step_falls, takes_outer, Level, own_fits, own_level, class_fits, class_level, step_fits, step_level, are_level}
 use Rattle.lp_laws.specs.Levels.{holds_code, trees_pass, taken_pass, steps_pass, tests_of, is_level}
-use Rattle.lp_laws.specs.WellFormed.{taken_in, is_shared, IsWellPart, IsWell}
+use Rattle.lp_laws.specs.WellFormed.{taken_in, is_shared, IsWellPart}
 use Rattle.lp_laws.proofs.Forests.{front, behind, count_split, parts_front, taken_belong, no_trees, length-parts}
 use Rattle.lp_laws.proofs.Steps.{one_part, any_code, code_belongs, no_class_none}
 use Rattle.lp_laws.proofs.Templates.{templates_sound}
@@ -346,7 +345,7 @@ part_level options prefix c below few p e =
     record {
       level = λ base i le floor.
           (let r = steps_level options prefix c (holes_of c.part) (tree_count below) base (steps_of c.part) below start i (record { fills = p.fills; notes = p.steady; few = few }) (templates_level c.part) p.shared e (omega arith) floor
-              (record { most = omega (arith, le); same = λ y z. absurd (both_ways false refl y) }) in
+          (record { most = omega (arith, le); same = λ y z. absurd (both_ways false refl y) }) in
           record { passes = r.passes; after = r.after });
       code = λ h i.
           code_steps_after options prefix c (tree_count below) i (steps_of c.part) below
@@ -357,3 +356,11 @@ part_level options prefix c below few p e =
 pub whole_level : (options : Options) (prefix : List ℕ) (c : Content) (below : Forest) → c.part ≡ part.Program → TreeLevel options prefix c below → is_level options prefix (tree c below bare) ≡ true
 unfolding printed tests_of
 whole_level options prefix c below p t = and_from (tree_passes options prefix c below 0) true (t.level 0 0 (omega arith) (λ y. refl)).passes refl
+
+pub whole_back : (options : Options) (prefix : List ℕ) (c : Content) (below : Forest) → c.part ≡ part.Program → TreeLevel options prefix c below → indent_after_all 0 (all_lines (printed options prefix (tree c below bare))) ≡ 0
+unfolding printed
+whole_back options prefix c below p t =
+    let first = (t.level 0 0 (omega arith) (λ y. refl)).after in
+    let low : one_if (rises c.part) ≡ 0 = ap (λ q. one_if (rises q)) p in
+    let lines_are = ap (indent_after_all 0) (append-nil (tree_lines options prefix c below)) in
+    omega (arith, low, first, lines_are)

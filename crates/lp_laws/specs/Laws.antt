@@ -2,7 +2,7 @@
 use Rattle.std.specs.Prelude.{◌≡◌, ℕ, ℤ, ◌^◌, ◌<◌, Bool, true, List, ◌∷◌, ◌++◌, length, replicate, All, Some, FitsSigned}
 use Rattle.std.specs.Int.{w32}
 use Rattle.lp_tree.specs.declared.tree.Program.{Program}
-use Rattle.lp_write.specs.Lines.{Line, line_bytes, lines_bytes}
+use Rattle.lp_write.specs.Lines.{Line, line_bytes, lines_bytes, indent_after_all}
 use Rattle.lp_write.specs.declared.rust.Options.{Options}
 use Rattle.lp_spelling.specs.Counting.{settled}
 use Rattle.lp_spelling.specs.TableReading.{entries}
@@ -40,6 +40,10 @@ ReadsBack = (options : Options) (program read : Program) → IsWellFormed progra
 -- its user code is printed at the indent of a function's body, and leaves it so
 abbrev pub CodeIsLevel : Type 0
 CodeIsLevel = (options : Options) (program : Program) → IsWellFormed program → is_level options program.prefix (whole program.entries.items) ≡ true
+
+-- the indent is 0 again behind it, as it was before
+abbrev pub IndentReturns : Type 0
+IndentReturns = (options : Options) (program : Program) → IsWellFormed program → indent_after_all 0 (lines options program) ≡ 0
 
 -- each program has one as which it is read
 abbrev pub EachIsRead : Type 0

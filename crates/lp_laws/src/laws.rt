@@ -1,6 +1,6 @@
 //! Laws between the printing and the reading of programs.
 
-ghost use Rattle.lp_laws.specs.Laws.{LinesComeBack, OthersDont, TablesComeBack, ReadsBack, CodeIsLevel, EachIsRead, SameToNorm};
+ghost use Rattle.lp_laws.specs.Laws.{LinesComeBack, OthersDont, TablesComeBack, ReadsBack, CodeIsLevel, IndentReturns, EachIsRead, SameToNorm};
 
 /// A printed line that counts is read as it is, whatever its indent. One that is empty or a comment
 /// is passed over.
@@ -16,10 +16,11 @@ pub fn tables()
 
 /// The text of a program that is well formed reads as that program, user code up to `norm`, whatever
 /// the options: comments and whitespace change the text and not the program. All its user code is
-/// printed at the indent of a function's body.
+/// printed at the indent of a function's body, and the indent behind it is 0 again.
 pub fn programs()
     ensures text { ReadsBack }
     ensures level { CodeIsLevel }
+    ensures indent { IndentReturns }
     ensures read { EachIsRead }
     ensures codes { SameToNorm }
 {}
