@@ -25,7 +25,7 @@ use Rattle.lp_program.specs.Trees.{Content, Note}
 use Rattle.lp_laws.specs.LineTexts.{ends_open}
 use Rattle.lp_laws.specs.LineTests.{next_so}
 use Rattle.lp_laws.specs.TemplateTests.{is_nothing}
-use Rattle.lp_laws.specs.LevelTests.{one_if, line_closes, line_opens, is_steady_kind, is_attribute_kind, is_hole_of, is_steady_end, is_steady_line, Level, own_fits, own_level}
+use Rattle.lp_laws.specs.LevelTests.{one_if, line_closes, line_opens, is_steady_kind, is_attribute_kind, is_hole_of, is_steady_end, is_steady_line, is_firm_line, Level, own_fits, own_level}
 use Rattle.lp_laws.specs.WellFormed.{HolesFill, IsSteady}
 use Rattle.lp_laws.proofs.LastBytes.{Steady, open_behind, open_some, steady-append, blanks_steady, digits_steady, one_line_steady}
 use Rattle.lp_laws.proofs.OnLine.{ends_ok}
@@ -137,7 +137,7 @@ front_closes prefix holes b pieces h =
     ap (λ k. closes (slice_index (replicate k 32 ++ line_of prefix holes pieces) 0)) (eqb-true b 0 q.0) ∙ ap (λ x. closes (slice_index x 0)) n.is ∙ n.so
 
 -- their ends
-end_opens : (prefix : List ℕ) (holes : List (List ℕ)) (pieces : List Piece) → line_opens pieces ≡ true → ends_open (line_of prefix holes pieces) ≡ true
+pub end_opens : (prefix : List ℕ) (holes : List (List ℕ)) (pieces : List Piece) → line_opens pieces ≡ true → ends_open (line_of prefix holes pieces) ≡ true
 unfolding line_of
 end_opens prefix holes [] h = absurd (both_ways false refl h)
 end_opens prefix holes (p ∷ []) h =
@@ -218,8 +218,8 @@ line_at prefix c kinds total base i b l pieces t h a =
     let text : List ℕ = line_of prefix c.holes pieces in
     let closing : Bool = line_closes b pieces in
     let opening : Bool = line_opens pieces in
-    let q = and_parts (opening || is_steady_line kinds pieces) (leb (one_if closing) l.above) h in
-    let room = leb-true (one_if closing) l.above q.1 in
+    let q = and_parts (opening || is_steady_line kinds pieces) (leb (one_if closing) l.above && (closing || is_firm_line kinds pieces)) h in
+    let room = leb-true (one_if closing) l.above (and_parts (leb (one_if closing) l.above) _ q.1).0 in
     let after = line_after i (blanks ++ text) closing opening (front_closes prefix c.holes b pieces)
     (λ n. steady-append blanks text (blanks_steady b)
     (line_steady prefix kinds c.holes pieces t.fills (⊎_elim (λ y. absurd (both_ways opening n y)) (λ y. y) (or_cases opening (is_steady_line kinds pieces) q.0))).0) in
@@ -238,25 +238,20 @@ line_at prefix c kinds total base i b l pieces t h a =
           omega (arith, four, up, floor));
     }
 
-each_most : (total base i above : ℕ) (each : Bool) (t : List ℕ) → Steady t → (each ≡ true → closes (slice_index t 0) ≡ true) → i ≤ base + above + extra each total →
-    indent_after_all i (replicate total (line t)) ≤ base + above + 0
-each_most total base i above true t h c m = omega (arith, closing_all total i t h (c refl), m)
-each_most total base i above false t h c m = omega (arith, steady_all total i t h, m)
-
-kept_at : (total base i j : ℕ) (l : Level) → At total base l i → j ≤ i → At total base (record { above = l.above; each = l.each; exact = false }) j
+kept_at : (total base i j : ℕ) (l : Level) → At total base l i → j ≤ i → At total base (record { above = l.above; each = l.each; exact = false; first = l.first }) j
 kept_at total base i j l a h = let most = a.most in record { most = omega (arith, most, h); same = λ e z. absurd (both_ways false refl e) }
 
 pub own_at : (options : Options) (prefix : List ℕ) (c : Content) (kinds : List Kind) (total base i : ℕ) (l : Level) (s : Step) (pieces : List Piece) → Steadies prefix c kinds → own_fits kinds l s pieces ≡ true → At total base l i →
     At total base (own_level l s pieces) (indent_after_all i (own_lines options prefix c total pieces s))
 own_at options prefix c kinds total base i l (step.Line b) pieces t h a = line_at prefix c kinds total base i b l pieces t h a
 own_at options prefix c kinds total base i l (step.Each b) pieces t h a =
-    let q = and_parts (is_steady_line kinds pieces) (not l.each || line_closes b pieces) h in
+    let q = and_parts (is_steady_line kinds pieces) (l.each && line_closes b pieces) h in
+    let r = and_parts l.each (line_closes b pieces) q.1 in
     let steady = steady-append (replicate b 32) (line_of prefix c.holes pieces) (blanks_steady b) (line_steady prefix kinds c.holes pieces t.fills q.0).0 in
-    record {
-      most = each_most total base i l.above l.each (replicate b 32 ++ line_of prefix c.holes pieces) steady
-          (λ y. front_closes prefix c.holes b pieces (⊎_elim (λ n. absurd (both_ways l.each (not-true l.each n) y)) (λ k. k) (or_cases (not l.each) (line_closes b pieces) q.1))) a.most;
-      same = λ e z. absurd (both_ways false refl e);
-    }
+    let after = closing_all total i (replicate b 32 ++ line_of prefix c.holes pieces) steady (front_closes prefix c.holes b pieces r.1) in
+    let all : extra l.each total ≡ 4 * total = ap (λ e. extra e total) r.0 in
+    let most = a.most in
+    record { most = omega (arith, after, all, most); same = λ e z. absurd (both_ways false refl e) }
 own_at options prefix c kinds total base i l step.Use pieces t h a =
     kept_at total base i _ l a (steady_after i (codes "use " ++ (hole c 0 ++ codes ";"))
     (open_behind (codes "use ") (hole c 0 ++ codes ";") (let size = length-append (hole c 0) (codes ";") in omega (arith, size)) ∙ open_behind (hole c 0) (codes ";") (omega arith)))

@@ -34,7 +34,7 @@ use Rattle.lp_laws.specs.WellFormed.{IsCodeText, StepFits, IsWellPart, IsWell, i
 use Rattle.lp_laws.specs.AsRead.{code_read, content_read, forest_read}
 use Rattle.lp_laws.proofs.Lining.{chars_blank}
 use Rattle.lp_laws.specs.Laws.{text_of, CodeIsLevel, IndentReturns, ReadsBack}
-use Rattle.lp_laws.specs.Levels.{is_level}
+use Rattle.lp_laws.specs.Levels.{is_level, never_stays}
 use Rattle.lp_laws.proofs.Fronts.{chars_some}
 use Rattle.lp_laws.proofs.Sound.{IsPrefix, word_before}
 use Rattle.lp_laws.proofs.Templates.{templates_sound, code_part}
@@ -43,6 +43,7 @@ use Rattle.lp_laws.proofs.Own.{ready_same, Texts}
 use Rattle.lp_laws.proofs.Steps.{Closing, any_code, no_class_none}
 use Rattle.lp_laws.proofs.Whole.{TreeOk, Each, part_same, trees_read, steps_read}
 use Rattle.lp_laws.proofs.Levelled.{EachLevel, code_lines_are, part_level, whole_level, whole_back}
+use Rattle.lp_laws.proofs.Returning.{EachLeast, part_least, whole_least}
 
 -- user code
 feed_off : (text : List ℕ) → without_feed (text ++ 10 ∷ []) ≡ text
@@ -283,21 +284,35 @@ each_level options prefix (tree c below after) few w =
 
 level_within : (options : Options) (prefix : List ℕ) (es : List Entry) → IsProgram (whole es) → EachLevel options prefix (whole es) → is_level options prefix (whole es) ≡ true
 level_within options prefix [] p e = absurd p
-level_within options prefix (x ∷ es) p e = whole_level options prefix (content x) (forest es) p e.0
+level_within options prefix (x ∷ es) p e = whole_level options prefix (content x) (forest es) e.0
 
 pub code_is_level : CodeIsLevel
 code_is_level options program well =
     let es : List Entry = program.entries.items in
     level_within options program.prefix es well.first (each_level options program.prefix (whole es) (few_whole es) well.trees)
 
-back_within : (options : Options) (prefix : List ℕ) (es : List Entry) → IsProgram (whole es) → EachLevel options prefix (whole es) → indent_after_all 0 (list_lines options prefix es) ≡ 0
-back_within options prefix [] p e = absurd p
-back_within options prefix (x ∷ es) p e = whole_back options prefix (content x) (forest es) p e.0
+back_within : (options : Options) (prefix : List ℕ) (es : List Entry) (i : ℕ) → IsProgram (whole es) → EachLevel options prefix (whole es) → indent_after_all i (list_lines options prefix es) ≤ i
+back_within options prefix [] i p e = absurd p
+back_within options prefix (x ∷ es) i p e = whole_back options prefix (content x) (forest es) i p e.0
+
+each_least : (options : Options) (prefix : List ℕ) (f : Forest) → IsPrefix prefix → IsWell prefix f → EachLeast options prefix f
+each_least options prefix bare p w = tt
+each_least options prefix (tree c below after) p w = (part_least options prefix c below p w.0 (each_least options prefix below p w.1), each_least options prefix after p w.2)
+
+least_within : (options : Options) (prefix : List ℕ) (es : List Entry) (i : ℕ) → IsProgram (whole es) → EachLeast options prefix (whole es) → never_stays i (list_lines options prefix es) ≡ true → i ≤ indent_after_all i (list_lines options prefix es)
+least_within options prefix [] i p e m = absurd p
+least_within options prefix (x ∷ es) i p e m = whole_least options prefix (content x) (forest es) i p e.0 m
+
+returned : (i j : ℕ) → j ≤ i → (0 < i → i ≤ j) → j ≡ i
+returned zero j most least = omega (arith, most)
+returned (suc i) j most least = omega (arith, most, least (omega arith))
 
 pub indent_returns : IndentReturns
-indent_returns options program well =
+indent_returns options program i well stays =
     let es : List Entry = program.entries.items in
-    back_within options program.prefix es well.first (each_level options program.prefix (whole es) (few_whole es) well.trees)
+    let prefix : List ℕ = program.prefix in
+    returned i (indent_after_all i (list_lines options prefix es)) (back_within options prefix es i well.first (each_level options prefix (whole es) (few_whole es) well.trees))
+    (λ some. least_within options prefix es i well.first (each_least options prefix (whole es) (prefix_is prefix well.prefix_fits well.prefix_utf8) well.trees) (stays some))
 
 -- the law
 pub reads_back : ReadsBack

@@ -5,6 +5,7 @@ pub mod Sound
 pub mod Bytes
 pub mod Templates
 pub mod LastBytes
+pub mod FirstBytes
 pub mod LevelParts
 pub mod Numbers
 pub mod Entries
@@ -16,6 +17,7 @@ pub mod Leveling
 pub mod Indents
 pub mod Whole
 pub mod Levelled
+pub mod Returning
 pub mod Law
 pub mod Existing
 pub mod Examples

@@ -14,7 +14,7 @@ use Rattle.lp_laws.specs.LineTexts.{Counts, IsSkipped, text_in}
 use Rattle.lp_laws.specs.WellFormed.{IsNote, IsWellFormed}
 use Rattle.lp_repr.specs.NormalCode.{norm_of}
 use Rattle.lp_laws.specs.AsRead.{code_read, IsRead}
-use Rattle.lp_laws.specs.Levels.{is_level}
+use Rattle.lp_laws.specs.Levels.{is_level, never_stays}
 
 -- whatever the indent, a printed line that counts is taken off the text as it is
 abbrev pub LinesComeBack : Type 0
@@ -41,9 +41,10 @@ ReadsBack = (options : Options) (program read : Program) → IsWellFormed progra
 abbrev pub CodeIsLevel : Type 0
 CodeIsLevel = (options : Options) (program : Program) → IsWellFormed program → is_level options program.prefix (whole program.entries.items) ≡ true
 
--- the indent is 0 again behind it, as it was before
+-- the indent behind it is what it was before, unless it stayed since a raised one doesn't fit 64 bits; from 0 on that doesn't matter
 abbrev pub IndentReturns : Type 0
-IndentReturns = (options : Options) (program : Program) → IsWellFormed program → indent_after_all 0 (lines options program) ≡ 0
+IndentReturns = (options : Options) (program : Program) (indent : ℕ) → IsWellFormed program → (0 < indent → never_stays indent (lines options program) ≡ true) →
+    indent_after_all indent (lines options program) ≡ indent
 
 -- each program has one as which it is read
 abbrev pub EachIsRead : Type 0

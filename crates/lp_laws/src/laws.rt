@@ -16,7 +16,7 @@ pub fn tables()
 
 /// The text of a program that is well formed reads as that program, user code up to `norm`, whatever
 /// the options: comments and whitespace change the text and not the program. All its user code is
-/// printed at the indent of a function's body, and the indent behind it is 0 again.
+/// printed at the indent of a function's body, and the indent behind it is what it was before.
 pub fn programs()
     ensures text { ReadsBack }
     ensures level { CodeIsLevel }
