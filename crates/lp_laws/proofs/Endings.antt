@@ -8,8 +8,6 @@ use Rattle.lp_tok.specs.Signs.{line_feed, quote, apostrophe, star, slash, hash, 
 use Rattle.lp_tok.specs.Scans.{starts_word, continues_word, after_word, from_char, from_unescaped, past, past_any, hashes, after_hashes, past_hashes, RawEnd, end_here, raw_end, after_comment}
 use Rattle.lp_tok.specs.declared.tok.ErrorCode.{ErrorCode}
 use Rattle.lp_tok.specs.declared.tok.ErrorCode.TheVariants.{UnterminatedStringLiteral, ExpectedStringLiteral, UnterminatedBlockComment}
-use Rattle.lp_tok.specs.declared.quoted.Kind.{Kind}
-use Rattle.lp_tok.specs.declared.quoted.Kind.TheVariants.{Plain}
 use Rattle.lp_tok.specs.CodePieces.{Piece, Whole, Fault, Nothing, kind_of, ended, past_maybe, after_quoted, quoted_piece, raw_string_piece, hashed_piece, raw_piece, slash_piece, code_piece}
 use Rattle.lp_tok.specs.Cut.{Splits, splits_none, splits_one, IsInside, MayEnd, StopsAt}
 use Rattle.lp_texts.specs.UserCode.{AnswersUse, AnswersCode}
@@ -159,11 +157,11 @@ raw_ended m n (c ∷ cs) e h =
       | false ↦ raw_ended m n cs
     ]) e h
 
--- a piece with something behind it
+-- a piece with something behind it; `kind_of 97` is the kind of a piece that counts no bracket
 abbrev More : List ℕ → Piece → Piece → Type 0
-More m old new = (k : Kind) (next : List ℕ) → old ≡ Whole k next → 0 < length next → new ≡ Whole k (next ++ m)
+More m old new = (k : _) (next : List ℕ) → old ≡ Whole k next → 0 < length next → new ≡ Whole k (next ++ m)
 
-whole_more : (m : List ℕ) (k : Kind) (old new : List ℕ) → Grown m old new → More m (Whole k old) (Whole k new)
+whole_more : (m : List ℕ) (k : _) (old new : List ℕ) → Grown m old new → More m (Whole k old) (Whole k new)
 whole_more m k old new g j next h some =
     let same : old ≡ next = cc in
     let kind : k ≡ j = cc in
@@ -172,26 +170,26 @@ whole_more m k old new g j next h some =
 ended_more : (m : List ℕ) (code : ErrorCode) (start start' : List ℕ) (o o' : Option (List ℕ)) → Found m o o' → More m (ended code start o) (ended code start' o')
 ended_more m code start start' None o' f k next h some = absurd cc
 ended_more m code start start' (Some after) o' f k next h some =
-    ap (ended code start') (f after refl) ∙ whole_more m Plain after (after ++ m) (λ g. refl) k next h some
+    ap (ended code start') (f after refl) ∙ whole_more m (kind_of 97) after (after ++ m) (λ g. refl) k next h some
 
 quoted_more : (m start start' cs cs' : List ℕ) → Grown m cs cs' → More m (quoted_piece start cs) (quoted_piece start' cs')
 quoted_more m start start' [] cs' g k next h some = absurd cc
 quoted_more m start start' (c ∷ cs) cs' g k next h some =
-    ap (quoted_piece start') (g (omega arith)) ∙ whole_more m Plain (c ∷ cs) (c ∷ (cs ++ m)) (λ j. refl) k next h some
+    ap (quoted_piece start') (g (omega arith)) ∙ whole_more m (kind_of 97) (c ∷ cs) (c ∷ (cs ++ m)) (λ j. refl) k next h some
 
 raw_more : (m start start' : List ℕ) (o o' : Option RawEnd) → Ended m o o' → More m (raw_string_piece start o) (raw_string_piece start' o')
 raw_more m start start' None o' f k next h some = absurd cc
 raw_more m start start' (Some e) o' f k next h some =
-    ap (raw_string_piece start') (f e refl) ∙ whole_more m Plain e.after (e.after ++ m) (λ g. refl) k next h some
+    ap (raw_string_piece start') (f e refl) ∙ whole_more m (kind_of 97) e.after (e.after ++ m) (λ g. refl) k next h some
 
 hashed_more : (m start start' : List ℕ) (n : ℕ) (cs : List ℕ) → More m (hashed_piece start n cs) (hashed_piece start' n (cs ++ m))
 hashed_more m start start' n [] k next h some = absurd cc
 hashed_more m start start' n (c ∷ cs) k next h some =
-    (elim (eqb c quote) as (λ b. More m (cond b (raw_string_piece start (raw_end (n - 1) cs)) (cond (starts_word c) (Whole Plain (after_word cs)) (Fault ExpectedStringLiteral (c ∷ cs))))
-    (cond b (raw_string_piece start' (raw_end (n - 1) (cs ++ m))) (cond (starts_word c) (Whole Plain (after_word (cs ++ m))) (Fault ExpectedStringLiteral (c ∷ (cs ++ m)))))) [
+    (elim (eqb c quote) as (λ b. More m (cond b (raw_string_piece start (raw_end (n - 1) cs)) (cond (starts_word c) (Whole (kind_of 97) (after_word cs)) (Fault ExpectedStringLiteral (c ∷ cs))))
+    (cond b (raw_string_piece start' (raw_end (n - 1) (cs ++ m))) (cond (starts_word c) (Whole (kind_of 97) (after_word (cs ++ m))) (Fault ExpectedStringLiteral (c ∷ (cs ++ m)))))) [
       | true ↦ raw_more m start start' (raw_end (n - 1) cs) (raw_end (n - 1) (cs ++ m)) (raw_ended m (n - 1) cs)
-      | false ↦ elim (starts_word c) as (λ b. More m (cond b (Whole Plain (after_word cs)) (Fault ExpectedStringLiteral (c ∷ cs))) (cond b (Whole Plain (after_word (cs ++ m))) (Fault ExpectedStringLiteral (c ∷ (cs ++ m))))) [
-        | true ↦ whole_more m Plain (after_word cs) (after_word (cs ++ m)) (word_grown m cs)
+      | false ↦ elim (starts_word c) as (λ b. More m (cond b (Whole (kind_of 97) (after_word cs)) (Fault ExpectedStringLiteral (c ∷ cs))) (cond b (Whole (kind_of 97) (after_word (cs ++ m))) (Fault ExpectedStringLiteral (c ∷ (cs ++ m))))) [
+        | true ↦ whole_more m (kind_of 97) (after_word cs) (after_word (cs ++ m)) (word_grown m cs)
         | false ↦ λ j x e g. absurd cc
       ]
     ]) k next h some
@@ -204,19 +202,19 @@ no_hashes m (c ∷ cs) some h = elim (cases_Bool (eqb c hash)) [
   | inr n ↦ cond-false (eqb c hash) _ _ n ∙ sym (cond-false (eqb c hash) (hashes cs + 1) 0 n)
 ]
 
-hashed_some : (start : List ℕ) (n : ℕ) (cs : List ℕ) (k : Kind) (next : List ℕ) → hashed_piece start n cs ≡ Whole k next → 0 < length cs
+hashed_some : (start : List ℕ) (n : ℕ) (cs : List ℕ) (k : _) (next : List ℕ) → hashed_piece start n cs ≡ Whole k next → 0 < length cs
 hashed_some start n [] k next h = absurd cc
 hashed_some start n (c ∷ cs) k next h = omega arith
 
 raw_piece_more : (m cs : List ℕ) → More m (raw_piece cs) (raw_piece (cs ++ m))
 raw_piece_more m cs k next h some = elim (cases_Bool (hashes cs == 0)) [
   | inl y ↦
-      let old : raw_piece cs ≡ Whole Plain cs = cond-true (hashes cs == 0) _ _ y in
-      let whole : Whole Plain cs ≡ Whole k next = sym old ∙ h in
+      let old : raw_piece cs ≡ Whole (kind_of 97) cs = cond-true (hashes cs == 0) _ _ y in
+      let whole : Whole (kind_of 97) cs ≡ Whole k next = sym old ∙ h in
       let same : cs ≡ next = cc in
       let none = no_hashes m cs (subst (λ x. 0 < length x) (sym same) some) y in
-      let new : raw_piece (cs ++ m) ≡ Whole Plain (cs ++ m) = cond-true (hashes (cs ++ m) == 0) _ _ (ap (λ n. n == 0) none ∙ y) in
-      new ∙ whole_more m Plain cs (cs ++ m) (λ g. refl) k next whole some
+      let new : raw_piece (cs ++ m) ≡ Whole (kind_of 97) (cs ++ m) = cond-true (hashes (cs ++ m) == 0) _ _ (ap (λ n. n == 0) none ∙ y) in
+      new ∙ whole_more m (kind_of 97) cs (cs ++ m) (λ g. refl) k next whole some
   | inr n ↦
       let old : raw_piece cs ≡ hashed_piece cs (hashes cs) (after_hashes cs) = cond-false (hashes cs == 0) _ _ n in
       let whole : hashed_piece cs (hashes cs) (after_hashes cs) ≡ Whole k next = sym old ∙ h in
@@ -229,12 +227,12 @@ raw_piece_more m cs k next h some = elim (cases_Bool (hashes cs == 0)) [
 slash_more : (m start start' cs : List ℕ) → More m (slash_piece start cs) (slash_piece start' (cs ++ m))
 slash_more m start start' [] k next h some = let same : [] ≡ next = cc in absurd (omega (arith, ap length same, some))
 slash_more m start start' (c ∷ cs) k next h some =
-    (elim (eqb c slash) as (λ b. More m (cond b (Whole Plain (from_char line_feed cs)) (cond (eqb c star) (ended UnterminatedBlockComment start (after_comment 0 cs)) (Whole Plain (c ∷ cs))))
-    (cond b (Whole Plain (from_char line_feed (cs ++ m))) (cond (eqb c star) (ended UnterminatedBlockComment start' (after_comment 0 (cs ++ m))) (Whole Plain (c ∷ (cs ++ m)))))) [
-      | true ↦ whole_more m Plain (from_char line_feed cs) (from_char line_feed (cs ++ m)) (char_grown m line_feed cs)
-      | false ↦ elim (eqb c star) as (λ b. More m (cond b (ended UnterminatedBlockComment start (after_comment 0 cs)) (Whole Plain (c ∷ cs))) (cond b (ended UnterminatedBlockComment start' (after_comment 0 (cs ++ m))) (Whole Plain (c ∷ (cs ++ m))))) [
+    (elim (eqb c slash) as (λ b. More m (cond b (Whole (kind_of 97) (from_char line_feed cs)) (cond (eqb c star) (ended UnterminatedBlockComment start (after_comment 0 cs)) (Whole (kind_of 97) (c ∷ cs))))
+    (cond b (Whole (kind_of 97) (from_char line_feed (cs ++ m))) (cond (eqb c star) (ended UnterminatedBlockComment start' (after_comment 0 (cs ++ m))) (Whole (kind_of 97) (c ∷ (cs ++ m)))))) [
+      | true ↦ whole_more m (kind_of 97) (from_char line_feed cs) (from_char line_feed (cs ++ m)) (char_grown m line_feed cs)
+      | false ↦ elim (eqb c star) as (λ b. More m (cond b (ended UnterminatedBlockComment start (after_comment 0 cs)) (Whole (kind_of 97) (c ∷ cs))) (cond b (ended UnterminatedBlockComment start' (after_comment 0 (cs ++ m))) (Whole (kind_of 97) (c ∷ (cs ++ m))))) [
         | true ↦ ended_more m UnterminatedBlockComment start start' (after_comment 0 cs) (after_comment 0 (cs ++ m)) (comment_found m 0 cs)
-        | false ↦ whole_more m Plain (c ∷ cs) (c ∷ (cs ++ m)) (λ g. refl)
+        | false ↦ whole_more m (kind_of 97) (c ∷ cs) (c ∷ (cs ++ m)) (λ g. refl)
       ]
     ]) k next h some
 
@@ -260,12 +258,12 @@ piece_more m (c ∷ cs) k next h some =
     ]) k next h some
 
 -- pieces up to a place that is not the end
-splits_some : (cs rest : List ℕ) (ks : List Kind) → Splits cs ks rest → 0 < length rest → 0 < length cs
+splits_some : (cs rest : List ℕ) (ks : List _) → Splits cs ks rest → 0 < length rest → 0 < length cs
 splits_some cs rest _ (splits_none _) some = some
 splits_some [] rest _ (splits_one _ next _ k ks p s) some = absurd cc
 splits_some (c ∷ cs) rest _ (splits_one _ next _ k ks p s) some = omega arith
 
-splits_grown : (m cs rest : List ℕ) (ks : List Kind) → Splits cs ks rest → 0 < length rest → Splits (cs ++ m) ks (rest ++ m)
+splits_grown : (m cs rest : List ℕ) (ks : List _) → Splits cs ks rest → 0 < length rest → Splits (cs ++ m) ks (rest ++ m)
 splits_grown m _ _ _ (splits_none cs) some = splits_none (cs ++ m)
 splits_grown m cs rest _ (splits_one _ next _ k ks p s) some =
     splits_one (cs ++ m) (next ++ m) (rest ++ m) k ks (piece_more m cs k next p (splits_some next rest ks s some)) (splits_grown m next rest ks s some)

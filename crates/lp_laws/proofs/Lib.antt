@@ -18,6 +18,7 @@ pub mod Indents
 pub mod Whole
 pub mod Levelled
 pub mod Returning
+pub mod Endings
 pub mod Law
 pub mod Existing
 pub mod Examples

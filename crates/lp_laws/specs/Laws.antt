@@ -1,6 +1,8 @@
 -- What the laws say: printed lines, tables and programs are read as what they were.
-use Rattle.std.specs.Prelude.{◌≡◌, ℕ, ℤ, ◌^◌, ◌<◌, Bool, true, List, ◌∷◌, ◌++◌, length, replicate, All, Some, FitsSigned}
+use Rattle.std.specs.Prelude.{◌≡◌, ℕ, ℤ, ◌^◌, ◌<◌, Bool, true, List, ◌∷◌, ◌++◌, length, replicate, All, Some, None, FitsSigned}
 use Rattle.std.specs.Int.{w32}
+use Rattle.std.specs.Str.{IsUtf8}
+use Rattle.lp_texts.specs.UserCode.{AnswersUse, AnswersCode}
 use Rattle.lp_tree.specs.declared.tree.Program.{Program}
 use Rattle.lp_write.specs.Lines.{Line, line_bytes, lines_bytes, indent_after_all}
 use Rattle.lp_write.specs.declared.rust.Options.{Options}
@@ -11,7 +13,7 @@ use Rattle.lp_program.specs.Reads.{TakesLine, ReadsAs}
 use Rattle.lp_program.specs.TableRows.{table_lines}
 use Rattle.lp_program.specs.Trees.{Note, whole}
 use Rattle.lp_laws.specs.LineTexts.{Counts, IsSkipped, text_in}
-use Rattle.lp_laws.specs.WellFormed.{IsNote, IsWellFormed}
+use Rattle.lp_laws.specs.WellFormed.{IsUseText, IsCodeText, IsNote, IsWellFormed}
 use Rattle.lp_repr.specs.NormalCode.{norm_of}
 use Rattle.lp_laws.specs.AsRead.{code_read, IsRead}
 use Rattle.lp_laws.specs.Levels.{is_level, never_stays}
@@ -32,6 +34,13 @@ TablesComeBack = (options : Options) (indent blanks : ℕ) (numbers : List ℤ) 
 -- the bytes of a program's lines, the first without indent
 abbrev pub text_of : Options → Program → List ℕ
 text_of options program = lines_bytes options.whitespace 0 (lines options program)
+
+-- a use and user code that the check of texts lets pass end where the printed `;` and `}` stand, whatever stands behind
+abbrev pub UsesEnd : Type 0
+UsesEnd = (text : List ℕ) → IsUtf8 text → AnswersUse text None → IsUseText text
+
+abbrev pub CodesEnd : Type 0
+CodesEnd = (text : List ℕ) → IsUtf8 text → AnswersCode text None → IsCodeText text
 
 -- a program that is well formed reads as it is, whatever the options
 abbrev pub ReadsBack : Type 0

@@ -1,6 +1,6 @@
 //! Laws between the printing and the reading of programs.
 
-ghost use Rattle.lp_laws.specs.Laws.{LinesComeBack, OthersDont, TablesComeBack, ReadsBack, CodeIsLevel, IndentReturns, EachIsRead, SameToNorm};
+ghost use Rattle.lp_laws.specs.Laws.{LinesComeBack, OthersDont, TablesComeBack, UsesEnd, CodesEnd, ReadsBack, CodeIsLevel, IndentReturns, EachIsRead, SameToNorm};
 
 /// A printed line that counts is read as it is, whatever its indent. One that is empty or a comment
 /// is passed over.
@@ -12,6 +12,13 @@ pub fn lines()
 /// The rows of a table are read as its numbers, whatever the options and the comments.
 pub fn tables()
     ensures { TablesComeBack }
+{}
+
+/// A use and user code that `check_texts` lets pass end where the printed `;` and `}` stand, whatever
+/// stands behind.
+pub fn texts()
+    ensures uses { UsesEnd }
+    ensures codes { CodesEnd }
 {}
 
 /// The text of a program that is well formed reads as that program, user code up to `norm`, whatever
