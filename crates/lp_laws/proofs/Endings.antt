@@ -3,16 +3,17 @@ use Rattle.std.proofs.Common.{◌≡◌, ℕ, ◌+◌, ◌-◌, ◌==◌, ◌<�
 use Rattle.std.specs.Str.{IsUtf8, chars}
 use Rattle.std.proofs.lemmas.Bool.{cases_Bool, cond-true, cond-false, eqb-true}
 use Rattle.std.proofs.lemmas.Option.{cond_some}
-use Rattle.std.proofs.lemmas.Str.{chars-append}
+use Rattle.std.proofs.lemmas.Str.{chars-append, IsUtf8-append, IsUtf8-from_ascii}
 use Rattle.lp_tok.specs.Signs.{line_feed, quote, apostrophe, star, slash, hash, backslash, letter_r, semicolon, right_brace}
 use Rattle.lp_tok.specs.Scans.{starts_word, continues_word, after_word, from_char, from_unescaped, past, past_any, hashes, after_hashes, past_hashes, RawEnd, end_here, raw_end, after_comment}
 use Rattle.lp_tok.specs.declared.tok.ErrorCode.{ErrorCode}
 use Rattle.lp_tok.specs.declared.tok.ErrorCode.TheVariants.{UnterminatedStringLiteral, ExpectedStringLiteral, UnterminatedBlockComment}
 use Rattle.lp_tok.specs.CodePieces.{Piece, Whole, Fault, Nothing, kind_of, ended, past_maybe, after_quoted, quoted_piece, raw_string_piece, hashed_piece, raw_piece, slash_piece, code_piece}
-use Rattle.lp_tok.specs.Cut.{Splits, splits_none, splits_one, IsInside, MayEnd, StopsAt}
+use Rattle.lp_tok.specs.Cut.{Splits, splits_none, splits_one, IsInside, IsEnder, balance, MayEnd, StopsAt}
 use Rattle.lp_texts.specs.UserCode.{AnswersUse, AnswersCode}
 use Rattle.lp_laws.specs.Laws.{UsesEnd, CodesEnd}
 use Rattle.lp_laws.specs.WellFormed.{IsUseText, IsCodeText}
+use Rattle.lp_laws.proofs.Sound.{plain_ascii}
 
 -- what is left of a text that has something left
 abbrev Grown : List ℕ → List ℕ → List ℕ → Type 0
@@ -272,6 +273,30 @@ stops_grown : (m cs rest : List ℕ) → StopsAt cs rest → 0 < length rest →
 stops_grown m cs rest s some e =
     (s.0, record { splits = splits_grown m cs rest s.0 s.1.splits some; goes_on = s.1.goes_on }, s.2, e)
 
+-- a character in front that counts no bracket
+front_goes : (ks before after : List _) (k : _) → ((x y : List _) (z : _) → ks ≡ x ++ z ∷ y → IsEnder z → 0 < balance x) → kind_of 97 ∷ ks ≡ before ++ k ∷ after → IsEnder k → 0 < balance before
+front_goes ks [] after k goes e d = let first : k ≡ kind_of 97 = cc in absurd (subst IsEnder first d)
+front_goes ks (x ∷ before) after k goes e d =
+    let first : kind_of 97 ≡ x = cc in
+    let others : ks ≡ before ++ k ∷ after = cc in
+    subst (λ y. 0 < balance (y ∷ before)) first (goes before after k others d)
+
+pub stops_front : (c : ℕ) (cs rest : List ℕ) → code_piece (c ∷ cs) ≡ Whole (kind_of 97) cs → StopsAt cs rest → StopsAt (c ∷ cs) rest
+stops_front c cs rest p s = (
+  kind_of 97 ∷ s.0,
+  record { splits = splits_one (c ∷ cs) cs rest (kind_of 97) s.0 p s.1.splits; goes_on = λ before after k e d. front_goes s.0 before after k s.1.goes_on e d },
+  s.2,
+  s.3,
+)
+
+stops_super : (cs rest : List ℕ) → StopsAt cs rest → StopsAt (codes "super::" ++ cs) rest
+stops_super cs rest s =
+    stops_front 115 (codes "uper::" ++ cs) rest refl (stops_front 117 (codes "per::" ++ cs) rest refl (stops_front 112 (codes "er::" ++ cs) rest refl (stops_front 101 (codes "r::" ++ cs) rest refl
+    (stops_front 114 (codes "::" ++ cs) rest refl (stops_front 58 (codes ":" ++ cs) rest refl (stops_front 58 cs rest refl s))))))
+
+super_utf8 : IsUtf8 (codes "super::")
+super_utf8 = IsUtf8-from_ascii (codes "super::") (plain_ascii (codes "super::") refl)
+
 -- the texts that the check lets pass
 uses_stop : (text rest : List ℕ) → IsUtf8 text → AnswersUse text None → StopsAt (chars (text ++ (codes ";" ++ 10 ∷ rest))) (chars (codes ";" ++ 10 ∷ rest))
 unfolding chars
@@ -281,8 +306,18 @@ uses_stop text rest u h =
     subst (λ x. StopsAt x (chars (codes ";" ++ 10 ∷ rest))) (sym whole)
     (stops_grown behind (chars text ++ semicolon ∷ []) (semicolon ∷ []) h (omega arith) (inl (kind_of semicolon, behind, refl, tt)))
 
+super_stop : (text rest : List ℕ) → IsUtf8 text → AnswersUse text None → StopsAt (chars ((codes "super::" ++ text) ++ (codes ";" ++ 10 ∷ rest))) (chars (codes ";" ++ 10 ∷ rest))
+unfolding chars
+super_stop text rest u h =
+    let behind : List ℕ = codes ";" ++ 10 ∷ rest in
+    let whole : chars ((codes "super::" ++ text) ++ behind) ≡ codes "super::" ++ chars (text ++ behind) = ap chars (append_assoc (codes "super::") text behind) ∙ chars-append (codes "super::") (text ++ behind) super_utf8 in
+    subst (λ x. StopsAt x (chars behind)) (sym whole) (stops_super (chars (text ++ behind)) (chars behind) (uses_stop text rest u h))
+
 pub uses_end : UsesEnd
-uses_end text u h = record { utf8 = u; stops = λ rest. uses_stop text rest u h }
+uses_end text u h = (
+  record { utf8 = u; stops = λ rest. uses_stop text rest u h },
+  record { utf8 = IsUtf8-append (codes "super::") text super_utf8 u; stops = λ rest. super_stop text rest u h },
+)
 
 pub codes_end : CodesEnd
 unfolding chars

@@ -33,6 +33,7 @@ use Rattle.lp_laws.specs.TemplateTests.{is_code, has_code, is_code_only, are_sou
 use Rattle.lp_laws.specs.WellFormed.{IsCodeText, StepFits, IsWellPart, IsWell, is_shared}
 use Rattle.lp_laws.specs.AsRead.{code_read, content_read, forest_read}
 use Rattle.lp_laws.proofs.Lining.{chars_blank}
+use Rattle.lp_laws.proofs.Endings.{stops_front}
 use Rattle.lp_laws.specs.Laws.{text_of, CodeIsLevel, IndentReturns, ReadsBack}
 use Rattle.lp_laws.specs.Levels.{is_level, never_stays}
 use Rattle.lp_laws.proofs.Fronts.{chars_some}
@@ -74,25 +75,10 @@ stops_brace : (more : List ℕ) → StopsAt (chars (125 ∷ 10 ∷ more)) (chars
 stops_brace more = subst (λ x. StopsAt x x) (sym (brace_chars more)) (stops_here (chars (10 ∷ more)))
 
 -- blanks in front of user code change nothing of its cut
-blank_goes : (ks before after : List _) (k : _) → ((x y : List _) (z : _) → ks ≡ x ++ z ∷ y → IsEnder z → 0 < balance x) → kind_of 32 ∷ ks ≡ before ++ k ∷ after → IsEnder k → 0 < balance before
-blank_goes ks [] after k goes e d = let first : k ≡ kind_of 32 = cc in absurd (subst IsEnder first d)
-blank_goes ks (x ∷ before) after k goes e d =
-    let first : kind_of 32 ≡ x = cc in
-    let others : ks ≡ before ++ k ∷ after = cc in
-    subst (λ y. 0 < balance (y ∷ before)) first (goes before after k others d)
-
-stops_blank : (cs rest : List ℕ) → StopsAt cs rest → StopsAt (32 ∷ cs) rest
-stops_blank cs rest s = (
-  kind_of 32 ∷ s.0,
-  record { splits = splits_one (32 ∷ cs) cs rest (kind_of 32) s.0 refl s.1.splits; goes_on = λ before after k e d. blank_goes s.0 before after k s.1.goes_on e d },
-  s.2,
-  s.3,
-)
-
 stops_many : (k : ℕ) (x rest : List ℕ) → StopsAt (chars x) rest → StopsAt (chars (replicate k 32 ++ x)) rest
 stops_many zero x rest s = s
 stops_many (suc k) x rest s =
-    subst (λ y. StopsAt y rest) (sym (chars_blank (replicate k 32 ++ x))) (stops_blank (chars (replicate k 32 ++ x)) rest (stops_many k x rest s))
+    subst (λ y. StopsAt y rest) (sym (chars_blank (replicate k 32 ++ x))) (stops_front 32 (chars (replicate k 32 ++ x)) rest refl (stops_many k x rest s))
 
 stops_blanks : (w : Bool) (x rest : List ℕ) → StopsAt (chars x) rest → StopsAt (chars (blanks w 4 ++ x)) rest
 stops_blanks true x rest s = stops_many 4 x rest s

@@ -1,5 +1,5 @@
 -- What the laws say: printed lines, tables and programs are read as what they were.
-use Rattle.std.specs.Prelude.{◌≡◌, ℕ, ℤ, ◌^◌, ◌<◌, Bool, true, List, ◌∷◌, ◌++◌, length, replicate, All, Some, None, FitsSigned}
+use Rattle.std.specs.Prelude.{◌≡◌, ℕ, ℤ, ◌^◌, ◌<◌, Bool, true, List, ◌∷◌, ◌++◌, length, replicate, codes, All, Some, None, FitsSigned}
 use Rattle.std.specs.Int.{w32}
 use Rattle.std.specs.Str.{IsUtf8}
 use Rattle.lp_texts.specs.UserCode.{AnswersUse, AnswersCode}
@@ -35,9 +35,10 @@ TablesComeBack = (options : Options) (indent blanks : ℕ) (numbers : List ℤ) 
 abbrev pub text_of : Options → Program → List ℕ
 text_of options program = lines_bytes options.whitespace 0 (lines options program)
 
--- a use and user code that the check of texts lets pass end where the printed `;` and `}` stand, whatever stands behind
+-- a use and user code that the check of texts lets pass end where the printed `;` and `}` stand, whatever stands behind;
+-- a use with `super::` in front too, as modules have it
 abbrev pub UsesEnd : Type 0
-UsesEnd = (text : List ℕ) → IsUtf8 text → AnswersUse text None → IsUseText text
+UsesEnd = (text : List ℕ) → IsUtf8 text → AnswersUse text None → IsUseText text × IsUseText (codes "super::" ++ text)
 
 abbrev pub CodesEnd : Type 0
 CodesEnd = (text : List ℕ) → IsUtf8 text → AnswersCode text None → IsCodeText text
