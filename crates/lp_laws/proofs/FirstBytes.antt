@@ -1,9 +1,9 @@
 -- The first bytes of texts: those that close no bracket.
-use Rattle.std.proofs.Common.{◌≡◌, ℕ, ◌==◌, ◌<◌, zero, suc, Bool, true, false, ◌||◌, List, [], ◌∷◌, ◌++◌, length, get_or, drop, replicate, codes, IsTrue, refl, sym, ap, ◌∙◌, subst, arith, eqb, inl, inr, ◌⊎◌, ⊎_elim}
+use Rattle.std.proofs.Common.{◌≡◌, ℕ, ◌==◌, ◌<◌, zero, suc, Bool, true, false, ◌||◌, List, [], ◌∷◌, ◌++◌, length, replicate, codes, IsTrue, refl, sym, ap, ◌∙◌, subst, arith, eqb, inl, inr, ◌⊎◌, ⊎_elim}
 use Rattle.std.specs.Prelude.{slice_index, not}
 use Rattle.std.specs.List.{list_all, starts_with}
-use Rattle.std.specs.Str.{IsUtf8, is_utf8, chars, bytes_eq}
-use Rattle.std.proofs.lemmas.Bool.{and_parts, and_from, or_cases, or_right, cases_Bool, cond-true, cond-false, eqb-true, false_from_ne_true, both_ways}
+use Rattle.std.specs.Str.{is_utf8, chars, bytes_eq}
+use Rattle.std.proofs.lemmas.Bool.{and_parts, and_from, or_cases, or_right, cases_Bool, cond-false, eqb-true, false_from_ne_true, both_ways}
 use Rattle.std.proofs.lemmas.Slice.Eq.{bytes_eq-Decides}
 use Rattle.unicode_ident.proofs.IdentLemmas.{is_xid_start-ascii}
 use Rattle.lp_form.specs.declared.template.Kind.{Kind}

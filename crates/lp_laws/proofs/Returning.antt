@@ -8,7 +8,6 @@ use Rattle.std.proofs.lemmas.Bool.{and_parts, and_from, or_cases, cases_Bool, co
 use Rattle.std.proofs.lemmas.List.Elements.{All-nil, All-cons, All-append, All-map}
 use Rattle.lp_form.specs.Templates.{Piece, steps_of, holes_of}
 use Rattle.lp_form.specs.Templates as template
-use Rattle.lp_form.specs.declared.part.Part.{Part}
 use Rattle.lp_form.specs.declared.part.Part.TheVariants as part
 use Rattle.lp_form.specs.declared.template.Kind.{Kind}
 use Rattle.lp_form.specs.declared.template.Slot.{Slot}
@@ -19,19 +18,18 @@ use Rattle.lp_write.specs.Lines.{Line, closes, lowered, raised, indent_after, in
 use Rattle.lp_write.specs.Lines.Line.{line, verbatim}
 use Rattle.lp_write.specs.declared.rust.Options.{Options}
 use Rattle.lp_write.proofs.Writing.{indent-append}
-use Rattle.lp_spelling.specs.Counting.{is_skipped}
 use Rattle.lp_spelling.specs.LineReading.{kind_of}
 use Rattle.lp_spelling.specs.Lines.{slot_text, line_of}
 use Rattle.lp_spelling.proofs.Reading.{starts_ok}
 use Rattle.lp_program.specs.OwnLines.{hole, spelled, note_lines, own_lines}
 use Rattle.lp_program.specs.Printed.{takes, all_lines, step_lines, printed}
 use Rattle.lp_program.specs.Reads.{parts_in, may_have}
-use Rattle.lp_program.specs.TableRows.{commented, entry_line, entry_lines, row_lines, no_note, last_lines, rows_from, table_lines}
+use Rattle.lp_program.specs.TableRows.{commented, entry_line, entry_lines, row_lines, no_note, rows_from, table_lines}
 use Rattle.lp_program.specs.Trees.{Content, Note, Forest, tree_count}
 use Rattle.lp_program.specs.Trees.Forest.{bare, tree}
 use Rattle.lp_laws.specs.LineTexts.{IsSkipped, ends_open}
 use Rattle.lp_laws.specs.TemplateTests.{is_class, has_class, is_one}
-use Rattle.lp_laws.specs.LevelTests.{rises, falls, one_if, step_rises, takes_falling, only_rises, step_falls, takes_outer, line_closes, line_opens, is_steady_line, is_hole_of, is_firm_kind, is_firm_slot, is_firm_text, is_firm_line, Level, own_fits, own_level, rising_fits, outer_fits, code_fits, class_fits, class_level, step_fits, step_level, are_level}
+use Rattle.lp_laws.specs.LevelTests.{rises, falls, one_if, step_rises, takes_falling, only_rises, step_falls, line_closes, line_opens, is_steady_line, is_firm_kind, is_firm_slot, is_firm_text, is_firm_line, Level, own_fits, own_level, rising_fits, class_fits, class_level, step_fits, step_level, are_level}
 use Rattle.lp_laws.specs.Levels.{may_raise, never_stays}
 use Rattle.lp_laws.specs.WellFormed.{HolesFill, IsNote, taken_in, is_shared, IsWellPart}
 use Rattle.lp_laws.proofs.Forests.{front, behind, count_split, parts_front, taken_belong, no_trees, length-parts, Every, every_front, every_behind}
