@@ -1,5 +1,5 @@
 -- A cut that stops within a text stops there too where more stands behind.
-use Rattle.std.proofs.Common.{◌≡◌, ℕ, ◌+◌, ◌-◌, ◌==◌, ◌<◌, zero, suc, Bool, true, false, cond, ◌&&◌, ◌||◌, List, [], ◌∷◌, ◌++◌, length, codes, Option, Some, None, refl, sym, ap, ◌∙◌, subst, arith, eqb, inl, inr, ◌⊎◌, append_assoc, length-append}
+use Rattle.std.proofs.Common.{◌≡◌, ℕ, ◌+◌, ◌-◌, ◌==◌, ◌<◌, zero, suc, true, false, cond, ◌&&◌, List, [], ◌∷◌, ◌++◌, length, codes, Option, Some, None, refl, sym, ap, ◌∙◌, subst, arith, eqb, inl, inr, append_assoc}
 use Rattle.std.specs.Str.{IsUtf8, chars}
 use Rattle.std.proofs.lemmas.Bool.{cases_Bool, cond-true, cond-false, eqb-true}
 use Rattle.std.proofs.lemmas.Option.{cond_some}
@@ -8,11 +8,10 @@ use Rattle.lp_tok.specs.Signs.{line_feed, quote, apostrophe, star, slash, hash, 
 use Rattle.lp_tok.specs.Scans.{starts_word, continues_word, after_word, from_char, from_unescaped, past, past_any, hashes, after_hashes, past_hashes, RawEnd, end_here, raw_end, after_comment}
 use Rattle.lp_tok.specs.declared.tok.ErrorCode.{ErrorCode}
 use Rattle.lp_tok.specs.declared.tok.ErrorCode.TheVariants.{UnterminatedStringLiteral, ExpectedStringLiteral, UnterminatedBlockComment}
-use Rattle.lp_tok.specs.CodePieces.{Piece, Whole, Fault, Nothing, kind_of, ended, past_maybe, after_quoted, quoted_piece, raw_string_piece, hashed_piece, raw_piece, slash_piece, code_piece}
-use Rattle.lp_tok.specs.Cut.{Splits, splits_none, splits_one, IsInside, IsEnder, balance, MayEnd, StopsAt}
-use Rattle.lp_texts.specs.UserCode.{AnswersUse, AnswersCode}
+use Rattle.lp_tok.specs.CodePieces.{Piece, Whole, Fault, kind_of, ended, past_maybe, after_quoted, quoted_piece, raw_string_piece, hashed_piece, raw_piece, slash_piece, code_piece}
+use Rattle.lp_tok.specs.Cut.{Splits, splits_none, splits_one, IsEnder, balance, MayEnd, StopsAt}
+use Rattle.lp_texts.specs.UserCode.{AnswersUse}
 use Rattle.lp_laws.specs.Laws.{UsesEnd, CodesEnd}
-use Rattle.lp_laws.specs.WellFormed.{IsUseText, IsCodeText}
 use Rattle.lp_laws.proofs.Sound.{plain_ascii}
 
 -- what is left of a text that has something left

@@ -11,9 +11,8 @@ use Rattle.lp_form.specs.Templates as template
 use Rattle.lp_form.specs.declared.part.Part.TheVariants as part
 use Rattle.lp_form.specs.declared.template.Step.{Step}
 use Rattle.lp_form.specs.declared.template.Step.TheVariants as step
-use Rattle.lp_tok.specs.Cut.{StopsAt, IsEnder, balance}
-use Rattle.lp_tok.specs.CodePieces.{kind_of}
-use Rattle.lp_tok.specs.Cut.Splits.{splits_none, splits_one}
+use Rattle.lp_tok.specs.Cut.{StopsAt}
+use Rattle.lp_tok.specs.Cut.Splits.{splits_none}
 use Rattle.lp_write.specs.Lines.{blanks, lines_bytes, indent_after_all}
 use Rattle.lp_write.specs.Lines.Line.{verbatim}
 use Rattle.lp_write.specs.declared.rust.Options.{Options}

@@ -19,6 +19,7 @@ pub mod Whole
 pub mod Levelled
 pub mod Returning
 pub mod Endings
+pub mod Filling
 pub mod Law
 pub mod Existing
 pub mod Examples

@@ -2,7 +2,10 @@
 use Rattle.std.specs.Prelude.{◌≡◌, ℕ, ℤ, ◌^◌, ◌<◌, Bool, true, List, ◌∷◌, ◌++◌, length, replicate, codes, All, Some, None, FitsSigned}
 use Rattle.std.specs.Int.{w32}
 use Rattle.std.specs.Str.{IsUtf8}
+use Rattle.lp_form.specs.declared.template.Kind.TheVariants as kind
+use Rattle.lp_texts.specs.TextRules.{AnswersLine, AnswersAttribute, AnswersTerminal}
 use Rattle.lp_texts.specs.UserCode.{AnswersUse, AnswersCode}
+use Rattle.lp_spelling.specs.Fillings.{Fills}
 use Rattle.lp_tree.specs.declared.tree.Program.{Program}
 use Rattle.lp_write.specs.Lines.{Line, line_bytes, lines_bytes, indent_after_all}
 use Rattle.lp_write.specs.declared.rust.Options.{Options}
@@ -42,6 +45,16 @@ UsesEnd = (text : List ℕ) → IsUtf8 text → AnswersUse text None → IsUseTe
 
 abbrev pub CodesEnd : Type 0
 CodesEnd = (text : List ℕ) → IsUtf8 text → AnswersCode text None → IsCodeText text
+
+-- types, attributes and texts of terminals that it lets pass may stand in their holes
+abbrev pub LinesFill : Type 0
+LinesFill = (prefix text : List ℕ) → IsUtf8 text → AnswersLine text None → Fills prefix kind.Text text × Fills prefix kind.Generics text
+
+abbrev pub AttributesFill : Type 0
+AttributesFill = (prefix text : List ℕ) → IsUtf8 text → AnswersAttribute text None → Fills prefix kind.Attribute text
+
+abbrev pub TerminalsFill : Type 0
+TerminalsFill = (prefix text : List ℕ) → IsUtf8 text → AnswersTerminal text None → Fills prefix kind.Terminal text
 
 -- a program that is well formed reads as it is, whatever the options
 abbrev pub ReadsBack : Type 0

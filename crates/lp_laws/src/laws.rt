@@ -1,6 +1,6 @@
 //! Laws between the printing and the reading of programs.
 
-ghost use Rattle.lp_laws.specs.Laws.{LinesComeBack, OthersDont, TablesComeBack, UsesEnd, CodesEnd, ReadsBack, CodeIsLevel, IndentReturns, EachIsRead, SameToNorm};
+ghost use Rattle.lp_laws.specs.Laws.{LinesComeBack, OthersDont, TablesComeBack, UsesEnd, CodesEnd, LinesFill, AttributesFill, TerminalsFill, ReadsBack, CodeIsLevel, IndentReturns, EachIsRead, SameToNorm};
 
 /// A printed line that counts is read as it is, whatever its indent. One that is empty or a comment
 /// is passed over.
@@ -15,10 +15,13 @@ pub fn tables()
 {}
 
 /// A use and user code that `check_texts` lets pass end where the printed `;` and `}` stand, whatever
-/// stands behind.
+/// stands behind. Types, attributes and texts of terminals that it lets pass may stand in their holes.
 pub fn texts()
     ensures uses { UsesEnd }
     ensures codes { CodesEnd }
+    ensures lines { LinesFill }
+    ensures attributes { AttributesFill }
+    ensures terminals { TerminalsFill }
 {}
 
 /// The text of a program that is well formed reads as that program, user code up to `norm`, whatever
