@@ -1,15 +1,13 @@
 -- Texts that the check of texts lets pass may stand in their holes.
-use Rattle.std.proofs.Common.{◌≡◌, ℕ, ◌+◌, ◌-◌, ◌==◌, ◌<◌, ◌≤◌, zero, suc, Bool, true, false, not, ◌&&◌, ◌||◌, List, [], ◌∷◌, ◌++◌, length, drop, codes, None, IsTrue, refl, sym, ap, ◌∙◌, subst, arith, eqb, ltb, eq-eqb, length-append}
+use Rattle.std.proofs.Common.{◌≡◌, ℕ, ◌+◌, ◌-◌, ◌==◌, suc, Bool, true, false, not, ◌&&◌, List, [], ◌∷◌, ◌++◌, length, drop, codes, refl, sym, ap, ◌∙◌, subst, arith, eqb, ltb, eq-eqb, length-append}
 use Rattle.std.specs.List.{starts_with, ends_with}
-use Rattle.std.specs.Str.{IsUtf8, bytes_eq}
+use Rattle.std.specs.Str.{bytes_eq}
 use Rattle.std.proofs.lemmas.Bool.{and_from, or_from, or_left, or_right, cond-false, eqb-true, ne_eqb, le-ltb, not_from_false, false_from_ne_true, both_ways}
-use Rattle.lp_form.specs.declared.template.Kind.TheVariants as kind
 use Rattle.lp_tok.specs.Signs.{line_feed, bang, hash, left_bracket, right_bracket}
 use Rattle.lp_texts.specs.Names.{stands, differs_from_front, is_wrong_last}
 use Rattle.lp_texts.specs.OneLine.{begins}
-use Rattle.lp_texts.specs.TextRules.{AnswersLine, AnswersAttribute, AnswersTerminal}
 use Rattle.lp_spelling.specs.HoleEnds.{first_at, place}
-use Rattle.lp_spelling.specs.Fillings.{holds, is_attribute, has_shape, line_part, Fits, Fills}
+use Rattle.lp_spelling.specs.Fillings.{holds, has_shape, line_part, Fits}
 use Rattle.lp_laws.specs.Laws.{LinesFill, AttributesFill, TerminalsFill}
 
 pub lines_fill : LinesFill
