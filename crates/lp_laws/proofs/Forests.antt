@@ -6,7 +6,7 @@ use Rattle.lp_form.specs.Templates.{steps_of}
 use Rattle.lp_form.specs.declared.part.Part.{Part}
 use Rattle.lp_form.specs.declared.template.Step.{Step}
 use Rattle.lp_write.specs.declared.rust.Options.{Options}
-use Rattle.lp_program.specs.Trees.{Forest, tree_count}
+use Rattle.lp_program.specs.Trees.{Content, Forest, tree_count}
 use Rattle.lp_program.specs.Trees.Forest.{bare, tree}
 use Rattle.lp_program.specs.Printed.{takes, takes_one, Printed, taken, step_lines, printed}
 use Rattle.lp_program.specs.Reads.{graft, parts_in}
@@ -102,3 +102,18 @@ no_count (tree c below after) h = absurd (omega (arith, h))
 pub length-parts : (f : Forest) → length (parts_in f) ≡ tree_count f
 length-parts bare = refl
 length-parts (tree c below after) = let h = length-parts after in omega (arith, h)
+
+-- each tree is so, over those below it
+abbrev pub Every : (Content → Forest → Type 0) → Forest → Type 0
+Every P bare = Unit {0}
+Every P (tree c below after) = P c below × Every P after
+
+pub every_front : (P : Content → Forest → Type 0) (n : ℕ) (f : Forest) → Every P f → Every P (front n f)
+every_front P zero f e = tt
+every_front P (suc n) bare e = tt
+every_front P (suc n) (tree c below after) e = (e.0, every_front P n after e.1)
+
+pub every_behind : (P : Content → Forest → Type 0) (n : ℕ) (f : Forest) → Every P f → Every P (behind n f)
+every_behind P zero f e = e
+every_behind P (suc n) bare e = tt
+every_behind P (suc n) (tree c below after) e = every_behind P n after e.1

@@ -11,16 +11,15 @@ use Rattle.lp_form.specs.Templates as template
 use Rattle.lp_form.specs.declared.part.Part.TheVariants as part
 use Rattle.lp_form.specs.declared.template.Step.{Step}
 use Rattle.lp_form.specs.declared.template.Step.TheVariants as step
-use Rattle.lp_tok.specs.Cut.{StopsAt, IsEnder, balance}
-use Rattle.lp_tok.specs.CodePieces.{kind_of}
-use Rattle.lp_tok.specs.Cut.Splits.{splits_none, splits_one}
-use Rattle.lp_write.specs.Lines.{blanks, lines_bytes}
+use Rattle.lp_tok.specs.Cut.{StopsAt}
+use Rattle.lp_tok.specs.Cut.Splits.{splits_none}
+use Rattle.lp_write.specs.Lines.{blanks, lines_bytes, indent_after_all}
 use Rattle.lp_write.specs.Lines.Line.{verbatim}
 use Rattle.lp_write.specs.declared.rust.Options.{Options}
 use Rattle.lp_spelling.specs.Counting.{settled}
 use Rattle.lp_program.specs.CodeReading.{IsCode, without_feed}
 use Rattle.lp_program.specs.OwnLines.{hole, code_lines}
-use Rattle.lp_program.specs.Printed.{step_lines, printed}
+use Rattle.lp_program.specs.Printed.{step_lines, printed, list_lines}
 use Rattle.lp_program.specs.Reads.{parts_in, hole_count, KindsFill, Reads, trees, steps, is_prefix, IsProgram}
 use Rattle.lp_program.specs.Reads.Reads.{no_tree, no_step, one_step}
 use Rattle.lp_program.specs.Trees.{Content, Forest, content, forest, forest_within, note, tree_count, whole}
@@ -31,9 +30,11 @@ use Rattle.lp_repr.specs.Names.{same_text}
 use Rattle.lp_spelling.proofs.Counting.{settled_none}
 use Rattle.lp_laws.specs.TemplateTests.{is_code, has_code, is_code_only, are_sound}
 use Rattle.lp_laws.specs.WellFormed.{IsCodeText, StepFits, IsWellPart, IsWell, is_shared}
-use Rattle.lp_laws.specs.AsRead.{code_read, content_read, forest_read, IsRead}
+use Rattle.lp_laws.specs.AsRead.{code_read, content_read, forest_read}
 use Rattle.lp_laws.proofs.Lining.{chars_blank}
-use Rattle.lp_laws.specs.Laws.{text_of, ReadsBack, CompactReadsBack}
+use Rattle.lp_laws.proofs.Endings.{stops_front}
+use Rattle.lp_laws.specs.Laws.{text_of, CodeIsLevel, IndentReturns, ReadsBack}
+use Rattle.lp_laws.specs.Levels.{is_level, never_stays}
 use Rattle.lp_laws.proofs.Fronts.{chars_some}
 use Rattle.lp_laws.proofs.Sound.{IsPrefix, word_before}
 use Rattle.lp_laws.proofs.Templates.{templates_sound, code_part}
@@ -41,6 +42,8 @@ use Rattle.lp_laws.proofs.Forests.{no_trees}
 use Rattle.lp_laws.proofs.Own.{ready_same, Texts}
 use Rattle.lp_laws.proofs.Steps.{Closing, any_code, no_class_none}
 use Rattle.lp_laws.proofs.Whole.{TreeOk, Each, part_same, trees_read, steps_read}
+use Rattle.lp_laws.proofs.Levelled.{EachLevel, code_lines_are, part_level, whole_level, whole_back}
+use Rattle.lp_laws.proofs.Returning.{EachLeast, part_least, whole_least}
 
 -- user code
 feed_off : (text : List ℕ) → without_feed (text ++ 10 ∷ []) ≡ text
@@ -71,25 +74,10 @@ stops_brace : (more : List ℕ) → StopsAt (chars (125 ∷ 10 ∷ more)) (chars
 stops_brace more = subst (λ x. StopsAt x x) (sym (brace_chars more)) (stops_here (chars (10 ∷ more)))
 
 -- blanks in front of user code change nothing of its cut
-blank_goes : (ks before after : List _) (k : _) → ((x y : List _) (z : _) → ks ≡ x ++ z ∷ y → IsEnder z → 0 < balance x) → kind_of 32 ∷ ks ≡ before ++ k ∷ after → IsEnder k → 0 < balance before
-blank_goes ks [] after k goes e d = let first : k ≡ kind_of 32 = cc in absurd (subst IsEnder first d)
-blank_goes ks (x ∷ before) after k goes e d =
-    let first : kind_of 32 ≡ x = cc in
-    let others : ks ≡ before ++ k ∷ after = cc in
-    subst (λ y. 0 < balance (y ∷ before)) first (goes before after k others d)
-
-stops_blank : (cs rest : List ℕ) → StopsAt cs rest → StopsAt (32 ∷ cs) rest
-stops_blank cs rest s = (
-  kind_of 32 ∷ s.0,
-  record { splits = splits_one (32 ∷ cs) cs rest (kind_of 32) s.0 refl s.1.splits; goes_on = λ before after k e d. blank_goes s.0 before after k s.1.goes_on e d },
-  s.2,
-  s.3,
-)
-
 stops_many : (k : ℕ) (x rest : List ℕ) → StopsAt (chars x) rest → StopsAt (chars (replicate k 32 ++ x)) rest
 stops_many zero x rest s = s
 stops_many (suc k) x rest s =
-    subst (λ y. StopsAt y rest) (sym (chars_blank (replicate k 32 ++ x))) (stops_blank (chars (replicate k 32 ++ x)) rest (stops_many k x rest s))
+    subst (λ y. StopsAt y rest) (sym (chars_blank (replicate k 32 ++ x))) (stops_front 32 (chars (replicate k 32 ++ x)) rest refl (stops_many k x rest s))
 
 stops_blanks : (w : Bool) (x rest : List ℕ) → StopsAt (chars x) rest → StopsAt (chars (blanks w 4 ++ x)) rest
 stops_blanks true x rest s = stops_many 4 x rest s
@@ -148,9 +136,7 @@ unfolding step_lines printed
 code_step options prefix c read total i step.Code pieces f text tail off k e fits h is closing =
     let none : f ≡ bare = no_trees f (no_class_none ((step.Code, pieces) ∷ []) (parts_in f) refl h) in
     let w : Bool = options.whitespace in
-    let lines_are : step_lines options prefix c total ((step.Code, pieces) ∷ []) (printed options prefix f) ≡ code_lines (hole c 0) =
-    ap (λ x. step_lines options prefix c total ((step.Code, pieces) ∷ []) (printed options prefix x)) none
-    ∙ append-nil (code_lines (hole c 0) ++ []) ∙ append-nil (code_lines (hole c 0)) in
+    let lines_are = code_lines_are options prefix c total pieces f none in
     let code : IsCode text (hole read 0) tail =
     subst (λ x. IsCode text x tail) (sym e) (printed_code options i (hole c 0) text tail off fits (is ∙ ap (λ x. lines_bytes w i x ++ tail) lines_are) closing) in
     subst (λ x. Reads prefix (steps read 0 ((step.Code, pieces) ∷ []) (forest_read w x)) text tail) (sym none)
@@ -275,15 +261,53 @@ program_read : (w : Bool) (f : Forest) → IsProgram f → IsProgram (forest_rea
 program_read w bare p = p
 program_read w (tree c below after) p = part_same w c ∙ p
 
+-- the level of each part, and of a whole program
+each_level : (options : Options) (prefix : List ℕ) (f : Forest) → Few f → IsWell prefix f → EachLevel options prefix f
+each_level options prefix bare few w = tt
+each_level options prefix (tree c below after) few w =
+    (part_level options prefix c below few.0 w.0 (each_level options prefix below few.1 w.1), each_level options prefix after few.2 w.2)
+
+level_within : (options : Options) (prefix : List ℕ) (es : List Entry) → IsProgram (whole es) → EachLevel options prefix (whole es) → is_level options prefix (whole es) ≡ true
+level_within options prefix [] p e = absurd p
+level_within options prefix (x ∷ es) p e = whole_level options prefix (content x) (forest es) e.0
+
+pub code_is_level : CodeIsLevel
+code_is_level options program well =
+    let es : List Entry = program.entries.items in
+    level_within options program.prefix es well.first (each_level options program.prefix (whole es) (few_whole es) well.trees)
+
+back_within : (options : Options) (prefix : List ℕ) (es : List Entry) (i : ℕ) → IsProgram (whole es) → EachLevel options prefix (whole es) → indent_after_all i (list_lines options prefix es) ≤ i
+back_within options prefix [] i p e = absurd p
+back_within options prefix (x ∷ es) i p e = whole_back options prefix (content x) (forest es) i p e.0
+
+each_least : (options : Options) (prefix : List ℕ) (f : Forest) → IsPrefix prefix → IsWell prefix f → EachLeast options prefix f
+each_least options prefix bare p w = tt
+each_least options prefix (tree c below after) p w = (part_least options prefix c below p w.0 (each_least options prefix below p w.1), each_least options prefix after p w.2)
+
+least_within : (options : Options) (prefix : List ℕ) (es : List Entry) (i : ℕ) → IsProgram (whole es) → EachLeast options prefix (whole es) → never_stays i (list_lines options prefix es) ≡ true → i ≤ indent_after_all i (list_lines options prefix es)
+least_within options prefix [] i p e m = absurd p
+least_within options prefix (x ∷ es) i p e m = whole_least options prefix (content x) (forest es) i p e.0 m
+
+returned : (i j : ℕ) → j ≤ i → (0 < i → i ≤ j) → j ≡ i
+returned zero j most least = omega (arith, most)
+returned (suc i) j most least = omega (arith, most, least (omega arith))
+
+pub indent_returns : IndentReturns
+indent_returns options program i well stays =
+    let es : List Entry = program.entries.items in
+    let prefix : List ℕ = program.prefix in
+    returned i (indent_after_all i (list_lines options prefix es)) (back_within options prefix es i well.first (each_level options prefix (whole es) (few_whole es) well.trees))
+    (λ some. least_within options prefix es i well.first (each_least options prefix (whole es) (prefix_is prefix well.prefix_fits well.prefix_utf8) well.trees) (stays some))
+
 -- the law
 pub reads_back : ReadsBack
-reads_back options program read level well alike =
+reads_back options program read well alike =
     let prefix : List ℕ = program.prefix in
     let f : Forest = whole program.entries.items in
     let w : Bool = options.whitespace in
     let is : IsPrefix prefix = prefix_is prefix well.prefix_fits well.prefix_utf8 in
     let text : List ℕ = text_of options program in
-    let r = trees_read options prefix f 0 text [] (each_well options prefix f (few_whole program.entries.items) is well.trees) level (ap settled (sym (append-nil text))) (λ a. absurd (no_code_on_top program.entries.items well.first a)) in
+    let r = trees_read options prefix f 0 text [] (each_well options prefix f (few_whole program.entries.items) is well.trees) (λ on. code_is_level options program well) (ap settled (sym (append-nil text))) (λ a. absurd (no_code_on_top program.entries.items well.first a)) in
     record {
       rest = r.rest;
       prefix_fits = ap is_prefix alike.prefix ∙ well.prefix_fits;
@@ -291,8 +315,3 @@ reads_back options program read level well alike =
       reads = subst (λ p. Reads p (trees (whole read.entries.items)) text r.rest) (sym alike.prefix) (subst (λ x. Reads prefix (trees x) text r.rest) (sym alike.trees) r.reads);
       nothing_left = r.same ∙ settled_none;
     }
-
--- without whitespace no indent is printed
-pub compact_reads_back : CompactReadsBack
-compact_reads_back options program read off well alike =
-    reads_back options program read (λ on. absurd (both_ways options.whitespace off on)) well (subst (λ w. IsRead w program read) (sym off) alike)

@@ -37,17 +37,21 @@ code_parts options prefix bare = refl
 code_parts options prefix (tree c below after) = ap (λ b. has_code (steps_of c.part) || b) (code_parts options prefix after)
 
 -- a step that has no parts below
-pub plain_pass : (options : Options) (prefix : List ℕ) (c : Content) (total i : ℕ) (s : template.Line) (others : List template.Line) (f : Forest) → is_class s.0 ≡ false →
-    steps_pass options prefix c total (s ∷ others) i (printed options prefix f) (tests_of options prefix f) ≡ true →
-    steps_pass options prefix c total others (indent_after_all i (own_lines options prefix c total s.1 s.0)) (printed options prefix f) (tests_of options prefix f) ≡ true
+pub plain_is : (options : Options) (prefix : List ℕ) (c : Content) (total i : ℕ) (s : template.Line) (others : List template.Line) (f : Forest) → is_class s.0 ≡ false →
+    steps_pass options prefix c total (s ∷ others) i (printed options prefix f) (tests_of options prefix f)
+    ≡ steps_pass options prefix c total others (indent_after_all i (own_lines options prefix c total s.1 s.0)) (printed options prefix f) (tests_of options prefix f)
 unfolding steps_pass
-plain_pass options prefix c total i s others f n h =
+plain_is options prefix c total i s others f n =
     let ps : List Printed = printed options prefix f in
     let qs : List Test = tests_of options prefix f in
     let j : ℕ = indent_after_all i (own_lines options prefix c total s.1 s.0) in
-    let none : taken s.0 ps ≡ 0 = taken_parts options prefix s.0 f ∙ none_taken s.0 (parts_in f) (not_taken s.0 n) in
-    let q = and_parts (taken_pass j (take (taken s.0 ps) ps) (take (taken s.0 ps) qs)) (steps_pass options prefix c total others (indent_after_all j (all_lines (take (taken s.0 ps) ps))) (drop (taken s.0 ps) ps) (drop (taken s.0 ps) qs)) h in
-    ap (λ k. steps_pass options prefix c total others (indent_after_all j (all_lines (take k ps))) (drop k ps) (drop k qs)) (sym none) ∙ q.1
+    ap (λ k. taken_pass j (take k ps) (take k qs) && steps_pass options prefix c total others (indent_after_all j (all_lines (take k ps))) (drop k ps) (drop k qs))
+    (taken_parts options prefix s.0 f ∙ none_taken s.0 (parts_in f) (not_taken s.0 n))
+
+pub plain_pass : (options : Options) (prefix : List ℕ) (c : Content) (total i : ℕ) (s : template.Line) (others : List template.Line) (f : Forest) → is_class s.0 ≡ false →
+    steps_pass options prefix c total (s ∷ others) i (printed options prefix f) (tests_of options prefix f) ≡ true →
+    steps_pass options prefix c total others (indent_after_all i (own_lines options prefix c total s.1 s.0)) (printed options prefix f) (tests_of options prefix f) ≡ true
+plain_pass options prefix c total i s others f n h = sym (plain_is options prefix c total i s others f n) ∙ h
 
 -- a step of a class
 pub record ClassPasses (options : Options) (prefix : List ℕ) (c : Content) (total i : ℕ) (others : List template.Line) (now later : Forest) : Type 0 where
@@ -66,19 +70,18 @@ taken_level options prefix i now h a =
     (λ e. let r = and_parts (i == 4) (k == 4) e in (eqb-true i 4 r.0, eqb-true k 4 r.1))
     (or_cases (not (holds_code ps)) ((i == 4) && (k == 4)) q.0)
 
-pub class_passes : (options : Options) (prefix : List ℕ) (c : Content) (total i : ℕ) (s : template.Line) (others : List template.Line) (f : Forest) → is_class s.0 ≡ true →
-    steps_pass options prefix c total (s ∷ others) i (printed options prefix f) (tests_of options prefix f) ≡ true →
-    ClassPasses options prefix c total i others (front (taken_in s.0 (parts_in f)) f) (behind (taken_in s.0 (parts_in f)) f)
+pub class_is : (options : Options) (prefix : List ℕ) (c : Content) (total i : ℕ) (s : template.Line) (others : List template.Line) (f : Forest) → is_class s.0 ≡ true →
+    steps_pass options prefix c total (s ∷ others) i (printed options prefix f) (tests_of options prefix f)
+    ≡ (taken_pass i (printed options prefix (front (taken_in s.0 (parts_in f)) f)) (tests_of options prefix (front (taken_in s.0 (parts_in f)) f))
+    && steps_pass options prefix c total others (indent_after_all i (all_lines (printed options prefix (front (taken_in s.0 (parts_in f)) f))))
+    (printed options prefix (behind (taken_in s.0 (parts_in f)) f)) (tests_of options prefix (behind (taken_in s.0 (parts_in f)) f)))
 unfolding steps_pass
-class_passes options prefix c total i s others f y h =
+class_is options prefix c total i s others f y =
     let ps : List Printed = printed options prefix f in
     let qs : List Test = tests_of options prefix f in
     let n : ℕ = taken_in s.0 (parts_in f) in
     let now : Forest = front n f in
     let later : Forest = behind n f in
-    let whole : (taken_pass i (printed options prefix now) (tests_of options prefix now)
-    && steps_pass options prefix c total others (indent_after_all i (all_lines (printed options prefix now))) (printed options prefix later) (tests_of options prefix later)) ≡ true =
-    sym (
     ap (λ o. taken_pass (indent_after_all i o) (take (taken s.0 ps) ps) (take (taken s.0 ps) qs)
     && steps_pass options prefix c total others (indent_after_all (indent_after_all i o) (all_lines (take (taken s.0 ps) ps))) (drop (taken s.0 ps) ps) (drop (taken s.0 ps) qs)) (class_own options prefix c total s.1 s.0 y)
     ∙ ap (λ k. taken_pass i (take k ps) (take k qs) && steps_pass options prefix c total others (indent_after_all i (all_lines (take k ps))) (drop k ps) (drop k qs)) (taken_parts options prefix s.0 f)
@@ -86,8 +89,16 @@ class_passes options prefix c total i s others f y h =
     ∙ ap (λ x. taken_pass i (printed options prefix now) x && steps_pass options prefix c total others (indent_after_all i (all_lines (printed options prefix now))) (drop n ps) (drop n qs)) (tests_front options prefix n f)
     ∙ ap (λ x. taken_pass i (printed options prefix now) (tests_of options prefix now) && steps_pass options prefix c total others (indent_after_all i (all_lines (printed options prefix now))) x (drop n qs)) (printed_behind options prefix n f)
     ∙ ap (λ x. taken_pass i (printed options prefix now) (tests_of options prefix now) && steps_pass options prefix c total others (indent_after_all i (all_lines (printed options prefix now))) (printed options prefix later) x) (tests_behind options prefix n f)
-    ) ∙ h in
-    let q = and_parts (taken_pass i (printed options prefix now) (tests_of options prefix now)) (steps_pass options prefix c total others (indent_after_all i (all_lines (printed options prefix now))) (printed options prefix later) (tests_of options prefix later)) whole in
+
+pub class_passes : (options : Options) (prefix : List ℕ) (c : Content) (total i : ℕ) (s : template.Line) (others : List template.Line) (f : Forest) → is_class s.0 ≡ true →
+    steps_pass options prefix c total (s ∷ others) i (printed options prefix f) (tests_of options prefix f) ≡ true →
+    ClassPasses options prefix c total i others (front (taken_in s.0 (parts_in f)) f) (behind (taken_in s.0 (parts_in f)) f)
+class_passes options prefix c total i s others f y h =
+    let n : ℕ = taken_in s.0 (parts_in f) in
+    let now : Forest = front n f in
+    let later : Forest = behind n f in
+    let q = and_parts (taken_pass i (printed options prefix now) (tests_of options prefix now)) (steps_pass options prefix c total others (indent_after_all i (all_lines (printed options prefix now))) (printed options prefix later) (tests_of options prefix later))
+    (sym (class_is options prefix c total i s others f y) ∙ h) in
     record {
       level = taken_level options prefix i now q.0;
       inner = (and_parts (not (holds_code (printed options prefix now)) || ((i == 4) && (indent_after_all i (all_lines (printed options prefix now)) == 4))) (trees_pass i (printed options prefix now) (tests_of options prefix now)) q.0).1;

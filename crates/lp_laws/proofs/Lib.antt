@@ -4,6 +4,9 @@ pub mod Fronts
 pub mod Sound
 pub mod Bytes
 pub mod Templates
+pub mod LastBytes
+pub mod FirstBytes
+pub mod LevelParts
 pub mod Numbers
 pub mod Entries
 pub mod TableLines
@@ -11,7 +14,12 @@ pub mod Forests
 pub mod Own
 pub mod Steps
 pub mod Leveling
+pub mod Indents
 pub mod Whole
+pub mod Levelled
+pub mod Returning
+pub mod Endings
+pub mod Filling
 pub mod Law
 pub mod Existing
 pub mod Examples

@@ -33,7 +33,7 @@ use Rattle.lp_laws.proofs.OnLine.{words-on_line, fits-on_line}
 use Rattle.lp_laws.proofs.Fronts.{Solid, Loose, ascii_begins, good_solid, solid_more, solid_loose, loose_counts, loose_more, one_line_loose, digit_good, escape_good, word_shown}
 
 -- words
-word_begins : (cs : List ℕ) → is_word cs ≡ true → begins starts_word cs ≡ true
+pub word_begins : (cs : List ℕ) → is_word cs ≡ true → begins starts_word cs ≡ true
 word_begins [] h = absurd (both_ways false refl h)
 word_begins (c ∷ cs) h = (and_parts (starts_word c) (list_all continues_word cs) h).0
 
@@ -76,7 +76,7 @@ digits_begin : (t : List ℕ) → 0 < length t → list_all is_digit t ≡ true 
 digits_begin [] l h = absurd (omega arith)
 digits_begin (b ∷ x) l h = (and_parts (is_digit b) (list_all is_digit x) h).0
 
-number_begins : (t : List ℕ) → is_number t ≡ true → begins is_digit t ≡ true
+pub number_begins : (t : List ℕ) → is_number t ≡ true → begins is_digit t ≡ true
 number_begins t h = let p = number_parts t h in digits_begin t p.0 p.1
 
 take_begins : (k : ℕ) (t : List ℕ) → begins is_digit (take k t) ≡ true → begins is_digit t ≡ true
@@ -84,7 +84,7 @@ take_begins zero t h = absurd (both_ways false refl h)
 take_begins (suc k) [] h = h
 take_begins (suc k) (b ∷ t) h = h
 
-range_begins : (t : List ℕ) → is_range t ≡ true → begins is_digit t ≡ true
+pub range_begins : (t : List ℕ) → is_range t ≡ true → begins is_digit t ≡ true
 range_begins t h = elim (cases_Bool (holds (codes "..=") t)) [
   | inl y ↦ take_begins _ t (number_begins (part_before (codes "..=") t) (and_parts (is_number (part_before (codes "..=") t)) _ (sym (cond-true (holds (codes "..=") t) _ _ y) ∙ h)).0)
   | inr n ↦ number_begins t (sym (cond-false (holds (codes "..=") t) _ _ n) ∙ h)
@@ -100,7 +100,7 @@ joined_begins (suc n) prefix e s t f h = elim (cases_Bool (holds s t)) [
   | inr z ↦ f t (sym (cond-false (holds s t) _ _ z) ∙ h)
 ]
 
-are_joined_begin : (prefix : List ℕ) (e : _) (s t : List ℕ) → ((x : List ℕ) → is_element prefix e x ≡ true → begins is_digit x ≡ true) → is_joined prefix e s t ≡ true → begins is_digit t ≡ true
+pub are_joined_begin : (prefix : List ℕ) (e : _) (s t : List ℕ) → ((x : List ℕ) → is_element prefix e x ≡ true → begins is_digit x ≡ true) → is_joined prefix e s t ≡ true → begins is_digit t ≡ true
 unfolding is_joined
 are_joined_begin prefix e s t f h = joined_begins (length t) prefix e s t f h
 
@@ -114,7 +114,7 @@ argument_solid t h = elim (cases_Bool (starts_with eqb t (codes "&"))) [
   | inr n ↦ name_solid t (sym (cond-false (starts_with eqb t (codes "&")) _ _ n) ∙ h)
 ]
 
-empty_is : (t : List ℕ) → (length t == 0) ≡ true → t ≡ []
+pub empty_is : (t : List ℕ) → (length t == 0) ≡ true → t ≡ []
 empty_is [] h = refl
 empty_is (b ∷ t) h = absurd (omega (arith, eqb-true (length (b ∷ t)) 0 h))
 

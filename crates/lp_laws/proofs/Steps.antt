@@ -97,7 +97,7 @@ pub record Closing (text : List ℕ) : Type 0 where
   pub more : List ℕ
   pub is : text ≡ 125 ∷ 10 ∷ more
 
-nothing_slot : (prefix : List ℕ) (holes : List (List ℕ)) (s : Slot) → is_nothing s ≡ true → slot_text prefix holes s ≡ []
+pub nothing_slot : (prefix : List ℕ) (holes : List (List ℕ)) (s : Slot) → is_nothing s ≡ true → slot_text prefix holes s ≡ []
 nothing_slot prefix holes Nothing h = refl
 nothing_slot prefix holes Prefix h = absurd (both_ways false refl h)
 nothing_slot prefix holes (Hole k) h = absurd (both_ways false refl h)

@@ -51,7 +51,7 @@ split_read : (w : Bool) (n : ℕ) (f : Forest) → graft (forest_read w (front n
 split_read w n f = graft_read w (front n f) (behind n f) ∙ ap (forest_read w) (graft_split n f)
 
 -- the lines of a tree
-abbrev tree_lines : Options → List ℕ → Content → Forest → List Line
+abbrev pub tree_lines : Options → List ℕ → Content → Forest → List Line
 tree_lines options prefix c below = step_lines options prefix c (tree_count below) (steps_of c.part) (printed options prefix below)
 
 -- user code stands here, in front of a `}`, at the indent of the body of a function
@@ -67,7 +67,7 @@ pub record TreeReads (options : Options) (prefix : List ℕ) (c : Content) (belo
   pub same : settled rest ≡ settled tail
 
 -- user code below a tree stands at its indent, where whitespace is on
-abbrev tree_passes : Options → List ℕ → Content → Forest → ℕ → Bool
+abbrev pub tree_passes : Options → List ℕ → Content → Forest → ℕ → Bool
 tree_passes options prefix c below i = steps_pass options prefix c (tree_count below) (steps_of c.part) i (printed options prefix below) (tests_of options prefix below)
 
 abbrev pub Tree : Options → List ℕ → Content → Forest → Type 0
@@ -152,7 +152,7 @@ pub record StepsRead (options : Options) (prefix : List ℕ) (c : Content) (done
   pub same : settled rest ≡ settled tail
 
 -- a step that has no parts below
-plain_lines : (options : Options) (prefix : List ℕ) (c : Content) (total : ℕ) (s : template.Line) (others : List template.Line) (f : Forest) → is_class s.0 ≡ false →
+pub plain_lines : (options : Options) (prefix : List ℕ) (c : Content) (total : ℕ) (s : template.Line) (others : List template.Line) (f : Forest) → is_class s.0 ≡ false →
     step_lines options prefix c total (s ∷ others) (printed options prefix f) ≡ own_lines options prefix c total s.1 s.0 ++ step_lines options prefix c total others (printed options prefix f)
 unfolding step_lines
 plain_lines options prefix c total s others f n =
@@ -161,14 +161,14 @@ plain_lines options prefix c total s others f n =
     ap (λ k. (own ++ all_lines (take k ps)) ++ step_lines options prefix c total others (drop k ps)) (taken_parts options prefix s.0 f ∙ none_taken s.0 (parts_in f) (not_taken s.0 n))
     ∙ ap (λ x. x ++ step_lines options prefix c total others ps) (append-nil own)
 
-plain_shared : (s : template.Line) (others : List template.Line) (parts : List Part) → is_class s.0 ≡ false → is_shared (s ∷ others) parts ≡ true → (may_have s.0 [] ≡ true) × (is_shared others parts ≡ true)
+pub plain_shared : (s : template.Line) (others : List template.Line) (parts : List Part) → is_class s.0 ≡ false → is_shared (s ∷ others) parts ≡ true → (may_have s.0 [] ≡ true) × (is_shared others parts ≡ true)
 plain_shared s others parts n h =
     let zero_taken : taken_in s.0 parts ≡ 0 = none_taken s.0 parts (not_taken s.0 n) in
     let q = and_parts (may_have s.0 (take (taken_in s.0 parts) parts)) (is_shared others (drop (taken_in s.0 parts) parts)) h in
     (ap (λ k. may_have s.0 (take k parts)) (sym zero_taken) ∙ q.0, ap (λ k. is_shared others (drop k parts)) (sym zero_taken) ∙ q.1)
 
 -- a step of a class
-class_lines : (options : Options) (prefix : List ℕ) (c : Content) (total : ℕ) (s : template.Line) (others : List template.Line) (f : Forest) → is_class s.0 ≡ true →
+pub class_lines : (options : Options) (prefix : List ℕ) (c : Content) (total : ℕ) (s : template.Line) (others : List template.Line) (f : Forest) → is_class s.0 ≡ true →
     step_lines options prefix c total (s ∷ others) (printed options prefix f)
     ≡ all_lines (printed options prefix (front (taken_in s.0 (parts_in f)) f)) ++ step_lines options prefix c total others (printed options prefix (behind (taken_in s.0 (parts_in f)) f))
 unfolding step_lines
@@ -181,7 +181,7 @@ class_lines options prefix c total s others f y =
     ∙ ap (λ x. (own ++ all_lines (printed options prefix (front n f))) ++ step_lines options prefix c total others x) (printed_behind options prefix n f)
     ∙ ap (λ x. (x ++ all_lines (printed options prefix (front n f))) ++ step_lines options prefix c total others (printed options prefix (behind n f))) (class_own options prefix c total s.1 s.0 y)
 
-class_shared : (s : template.Line) (others : List template.Line) (f : Forest) → is_shared (s ∷ others) (parts_in f) ≡ true →
+pub class_shared : (s : template.Line) (others : List template.Line) (f : Forest) → is_shared (s ∷ others) (parts_in f) ≡ true →
     (may_have s.0 (parts_in (front (taken_in s.0 (parts_in f)) f)) ≡ true) × (is_shared others (parts_in (behind (taken_in s.0 (parts_in f)) f)) ≡ true)
 class_shared s others f h =
     let n : ℕ = taken_in s.0 (parts_in f) in

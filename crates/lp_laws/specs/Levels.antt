@@ -1,14 +1,16 @@
--- Where user code stands: at the indent of a function's body.
-use Rattle.std.specs.Prelude.{ℕ, Bool, true, not, ◌&&◌, ◌||◌, ◌==◌, List, [], ◌∷◌, take, drop}
+-- Where user code stands: at the indent of a function's body. And where the indent can be raised.
+use Rattle.std.specs.Prelude.{ℕ, ◌+◌, ◌^◌, Bool, true, not, ◌&&◌, ◌||◌, ◌==◌, nat_lt, List, [], ◌∷◌, take, drop}
 use Rattle.std.specs.List.{list_any}
 use Rattle.lp_form.specs.Templates.{steps_of}
 use Rattle.lp_form.specs.Templates as template
-use Rattle.lp_write.specs.Lines.{indent_after_all}
+use Rattle.lp_write.specs.Lines.{Line, lowered, indent_after, indent_after_all}
+use Rattle.lp_write.specs.Lines.Line.{line, verbatim}
 use Rattle.lp_write.specs.declared.rust.Options.{Options}
 use Rattle.lp_program.specs.OwnLines.{own_lines}
 use Rattle.lp_program.specs.Printed.{Printed, taken, all_lines, printed}
 use Rattle.lp_program.specs.Trees.{Content, Forest, tree_count}
 use Rattle.lp_program.specs.Trees.Forest.{bare, tree}
+use Rattle.lp_laws.specs.LineTexts.{ends_open}
 use Rattle.lp_laws.specs.TemplateTests.{has_code}
 
 -- user code is among the parts
@@ -49,3 +51,12 @@ tests_of options prefix (tree c below after) =
 -- in the text of these trees, from the indent 0 on, all user code stands at the indent 4, before and behind it
 abbrev pub is_level : Options → List ℕ → Forest → Bool
 is_level options prefix f = trees_pass 0 (printed options prefix f) (tests_of options prefix f)
+
+-- the indent that a line with an opening bracket at its end raises fits 64 bits; so it doesn't stay
+abbrev pub may_raise : ℕ → Line → Bool
+may_raise indent (line text) = not (ends_open text) || nat_lt (lowered indent text + 4) (2 ^ 64)
+may_raise indent (verbatim text) = true
+
+abbrev pub never_stays : ℕ → List Line → Bool
+never_stays indent [] = true
+never_stays indent (l ∷ lines) = may_raise indent l && never_stays (indent_after indent l) lines

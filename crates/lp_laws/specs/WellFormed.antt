@@ -19,7 +19,7 @@ use Rattle.lp_program.specs.Printed.{takes, takes_one}
 use Rattle.lp_program.specs.Reads.{parts_in, may_have, hole_count, is_prefix, IsProgram}
 use Rattle.lp_program.specs.Trees.{Content, Note, Forest, whole}
 use Rattle.lp_program.specs.Trees.Forest.{bare, tree}
-use Rattle.lp_laws.specs.LineTexts.{IsSkipped}
+use Rattle.lp_laws.specs.LineTexts.{IsSkipped, ends_open}
 
 -- a pattern that begins a line must not be empty, since a blank would stand in front of it
 abbrev pub is_pattern : Kind → Bool
@@ -62,6 +62,10 @@ pub record IsNote (note : Note) : Type 0 where
   pub lines : All IsSkipped note.lines
   pub comments : All IsTrailing note.comments
 
+-- none of its comment lines ends with an opening bracket, so they leave the indent as it was
+abbrev pub IsSteady : Note → Type 0
+IsSteady note = All (λ line. ends_open line ≡ false) note.lines
+
 -- what a step prints that no line of a template tells
 abbrev pub StepFits : Content → Step → Type 0
 StepFits c step.Use = IsUseText (hole c 0)
@@ -76,6 +80,7 @@ pub record IsWellPart (prefix : List ℕ) (c : Content) (below : List Part) : Ty
   pub shared : is_shared (steps_of c.part) below ≡ true
   pub steps : All (λ s. StepFits c s.0) (steps_of c.part)
   pub notes : All IsNote c.notes
+  pub steady : All IsSteady c.notes
 
 -- trees side by side
 abbrev pub IsWell : List ℕ → Forest → Type 0

@@ -1,9 +1,15 @@
 use Rattle.lp_laws.proofs.Existing.{each_is_read, same_to_norm}
-use Rattle.lp_laws.proofs.Law.{reads_back}
+use Rattle.lp_laws.proofs.Law.{reads_back, code_is_level, indent_returns}
 use Rattle.lp_laws.proofs.laws.programs.Goals as goal
 
 pub returns-clause-text : goal.returns-clause-text
 returns-clause-text c = reads_back
+
+pub returns-clause-level : goal.returns-clause-level
+returns-clause-level c = code_is_level
+
+pub returns-clause-indent : goal.returns-clause-indent
+returns-clause-indent c = indent_returns
 
 pub returns-clause-read : goal.returns-clause-read
 returns-clause-read c = each_is_read
