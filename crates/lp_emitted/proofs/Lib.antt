@@ -1,0 +1,3 @@
+pub mod Sharing
+pub mod Apart
+pub mod Rows
