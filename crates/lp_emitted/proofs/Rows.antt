@@ -54,7 +54,7 @@ beside {ss} {ts} {xs} {ys} a b = record {
 }
 
 -- a part whose steps take what stands below it
-over_trees : (part : Part) (holes : List (List ℕ)) (numbers : List ℤ) (below : List Item) → length holes ≡ hole_count part → Takes (class_steps (steps_of part)) below →
+pub over_trees : (part : Part) (holes : List (List ℕ)) (numbers : List ℤ) (below : List Item) → length holes ≡ hole_count part → Takes (class_steps (steps_of part)) below →
     AreTrees ((part, holes, numbers, length below) ∷ below) (part ∷ [])
 over_trees part holes numbers below count t =
     subst (λ b. AreTrees ((part, holes, numbers, length below) ∷ b) (part ∷ [])) (append-nil below)
@@ -186,3 +186,28 @@ pairs_more {first} {second} {xs} {ys} {zs} a b c =
       fits = ap (λ u. are_pairs first second ((k.parts ++ u) ++ m.parts)) p.1 ∙ ap (λ u. are_pairs first second ((k.parts ++ p.0 ∷ []) ++ u)) q.1
       ∙ pairs_end first second k.parts p.0 q.0 k.fits p.2 q.2;
     })
+
+-- what is over or beside nothing else, as the built lists say it
+pub over_one : (class : Class) (part : Part) {holes : List (List ℕ)} {below : List Item} → is_member class part ≡ true → length holes ≡ hole_count part →
+    Takes (class_steps (steps_of part)) below → Takes (step.One class ∷ []) ((part, holes, [], length below) ∷ below)
+over_one class part {holes} {below} member count t = one_over class part holes [] below member count t
+
+pub leaf_one : (class : Class) (part : Part) {holes : List (List ℕ)} → is_leaf class part (length holes) ≡ true → Takes (step.One class ∷ []) (leaf part holes)
+leaf_one class part {holes} h = one_leaf class part holes [] h
+
+-- rows of one text
+pub text_many : (class : Class) (part : Part) → is_leaf class part 1 ≡ true → (texts : List (List ℕ)) → Takes (step.Many class ∷ []) (map (λ text. (part, text ∷ [], [], 0)) texts)
+text_many class part h texts = many_map class (λ text. (part, text ∷ [], [], 0)) (λ text. one_leaf class part (text ∷ []) [] h) texts
+
+-- one of two
+pub either : {steps : List Step} {xs ys : List Item} (b : Bool) → Takes steps xs → Takes steps ys → Takes steps (if b then xs else ys)
+either true t e = t
+either false t e = e
+
+pub either_when : {steps : List Step} {xs ys : List Item} (b : Bool) → (b ≡ true → Takes steps xs) → (b ≡ false → Takes steps ys) → Takes steps (if b then xs else ys)
+either_when true t e = t refl
+either_when false t e = e refl
+
+-- a part that is asked for
+pub optional_if : (class : Class) (part : Part) (b : Bool) → is_leaf class part 0 ≡ true → Takes (step.Optional class ∷ []) (if b then leaf part [] else [])
+optional_if class part b h = either b (optional_one (leaf_one class part {holes = []} h)) (optional_none class)
