@@ -1,19 +1,25 @@
 -- The trees of a list of parts, from its parts in preorder.
-use Rattle.std.proofs.Common.{◌≡◌, ℕ, ℤ, ◌+◌, List, [], ◌∷◌, ◌++◌, length, map, take, drop, refl, sym, ap, ◌∙◌, subst, append_assoc}
-use Rattle.lp_form.specs.Templates.{steps_of}
+use Rattle.std.proofs.Common.{◌≡◌, ℕ, ℤ, ◌+◌, List, [], ◌∷◌, ◌++◌, length, map, refl, sym, ap, ◌∙◌, subst, arith}
+use Rattle.lp_form.specs.Templates.{steps_of, holes_of}
 use Rattle.lp_form.specs.declared.part.Part.{Part}
 use Rattle.lp_form.specs.declared.part.Part.TheVariants as part
-use Rattle.lp_tree.specs.ProgramTree.{Item, item, program_items}
+use Rattle.lp_repr.specs.declared.lr1.StartStates.{StartStates}
+use Rattle.lp_repr.specs.declared.repr.Grammar.{Grammar}
+use Rattle.lp_tree.specs.ProgramTree.{Item, item}
 use Rattle.lp_tree.specs.declared.tree.Entry.{Entry}
 use Rattle.lp_tree.specs.declared.tree.Program.{Program}
 use Rattle.lp_program.specs.Adding.{Holds}
-use Rattle.lp_program.specs.Reads.{graft, hole_count, parts_in}
+use Rattle.lp_program.specs.Reads.{hole_count, parts_in, IsProgram}
 use Rattle.lp_program.specs.Trees.{content, Forest, forest, whole}
 use Rattle.lp_program.specs.Trees.Forest.{bare, tree}
-use Rattle.lp_program.proofs.Grafts.{graft_bare, holds_alone, holds_none, holds_then, holds_tree, parts_graft}
+use Rattle.lp_program.proofs.Grafts.{holds_alone, holds_none, holds_then, holds_tree}
 use Rattle.lp_laws.specs.WellFormed.{is_shared}
-use Rattle.lp_emitted.specs.Shapes.{AreShaped, IsShaped}
-use Rattle.lp_emitted.proofs.Rows.{AreTrees, no_tree, one_tree}
+use Rattle.lp_emit.specs.Built.{IsBuilt}
+use Rattle.lp_emitted.specs.Shapes.{AreShaped, IsShaped, IsShapedPart}
+use Rattle.lp_emitted.proofs.Apart.{templates_apart}
+use Rattle.lp_emitted.proofs.Programs.{program_lines, program_takes}
+use Rattle.lp_emitted.proofs.Rows.{AreTrees, no_tree, one_tree, Takes}
+use Rattle.lp_emitted.proofs.Sharing.{class_steps, joined, shared_by}
 
 -- the front of a list whose image begins so, and what is behind it
 pub record Cut (es : List Entry) (xs ys : List Item) : Type 0 where
@@ -22,6 +28,9 @@ pub record Cut (es : List Entry) (xs ys : List Item) : Type 0 where
   pub es_are : es ≡ front ++ behind
   pub xs_are : map item front ≡ xs
   pub ys_are : map item behind ≡ ys
+
+not_empty : (x : Item) (xs : List Item) → [] ≡ x ∷ xs → ⊥
+not_empty x xs h = let e : length {A = Item} [] ≡ length (x ∷ xs) = ap length h in omega (arith, e)
 
 head_of : Item → List Item → Item
 head_of i [] = i
@@ -33,7 +42,7 @@ tail_of (x ∷ xs) = xs
 
 cut : (es : List Entry) (xs ys : List Item) → map item es ≡ xs ++ ys → Cut es xs ys
 cut es [] ys h = record { front = []; behind = es; es_are = refl; xs_are = refl; ys_are = h }
-cut [] (x ∷ xs) ys h = ?
+cut [] (x ∷ xs) ys h = absurd (not_empty x (xs ++ ys) h)
 cut (e ∷ es) (x ∷ xs) ys h =
     let c = cut es xs ys (ap tail_of h) in
     record {
@@ -50,3 +59,67 @@ pub record Grown (es : List Entry) (ps : List Part) : Type 0 where
   pub holds : Holds es trees
   pub parts : parts_in trees ≡ ps
   pub shaped : AreShaped trees
+
+length-items : (es : List Entry) → length (map item es) ≡ length es
+length-items [] = refl
+length-items (e ∷ es) = ap (λ n. 1 + n) (length-items es)
+
+-- a part over the parts that it counts
+over_them : (e : Entry) (es : List Entry) (below : List Item) (i : Item) → item e ≡ i → i.3 ≡ length below → map item es ≡ below → e.below ≡ length es
+over_them e es below i h n m = ap (λ (x : Item). x.3) h ∙ n ∙ sym (ap length m) ∙ length-items es
+
+-- what is known of a part's item is known of the part
+pub shaped_part : (e : Entry) (i : Item) (below : List Part) → item e ≡ i → length i.1 ≡ hole_count i.0 → is_shared (steps_of i.0) below ≡ true → IsShapedPart (content e) below
+shaped_part e i below h count shared = record {
+  count = subst (λ (x : Item). length x.1 ≡ hole_count x.0) (sym h) count;
+  shared = subst (λ (x : Item). is_shared (steps_of x.0) below ≡ true) (sym h) shared;
+}
+
+pub grow : (items : List Item) (ps : List Part) → AreTrees items ps → (es : List Entry) → map item es ≡ items → Grown es ps
+grow _ _ no_tree [] h = record { trees = bare; holds = holds_none; parts = refl; shaped = tt }
+grow _ _ no_tree (e ∷ es) h = absurd (not_empty (item e) (map item es) (sym h))
+grow _ _ (one_tree part holes numbers below after inner outer count shared b a) [] h = absurd (not_empty (part, holes, numbers, length below) (below ++ after) h)
+grow _ _ (one_tree part holes numbers below after inner outer count shared b a) (e ∷ es) h =
+    let c = cut es below after (ap tail_of h) in
+    let i : item e ≡ (part, holes, numbers, length below) = ap (head_of (item e)) h in
+    let f = grow below inner b c.front c.xs_are in
+    let k = grow after outer a c.behind c.ys_are in
+    record {
+      trees = tree (content e) f.trees k.trees;
+      holds = subst (λ (x : List Entry). Holds (e ∷ x) (tree (content e) f.trees k.trees)) (sym c.es_are)
+          (holds_then (e ∷ c.front) c.behind (tree (content e) f.trees bare) k.trees
+          (holds_tree e c.front f.trees (over_them e c.front below (part, holes, numbers, length below) i refl c.xs_are) f.holds) k.holds);
+      parts = ap (λ (x : Item). x.0 ∷ parts_in k.trees) i ∙ ap (λ (ps : List Part). part ∷ ps) k.parts;
+      shaped = (
+        shaped_part e (part, holes, numbers, length below) (parts_in f.trees) i count (ap (is_shared (steps_of part)) f.parts ∙ shared),
+        f.shaped,
+        k.shaped,
+      );
+    }
+
+-- a whole program, over what its steps take
+whole_shaped : (p : Part) (holes : List (List ℕ)) (numbers : List ℤ) (below : List Item) (es : List Entry) → p ≡ part.Program → length holes ≡ hole_count p → Takes (class_steps (steps_of p)) below →
+    map item es ≡ (p, holes, numbers, length below) ∷ below → IsProgram (whole es) × AreShaped (whole es)
+whole_shaped p holes numbers below [] q count t h = absurd (not_empty (p, holes, numbers, length below) below h)
+whole_shaped p holes numbers below (e ∷ es) q count t h =
+    let i : item e ≡ (p, holes, numbers, length below) = ap (head_of (item e)) h in
+    let f = grow below (joined t.chunks) t.trees es (ap tail_of h) in
+    let same : forest es ≡ f.trees = holds_alone es f.trees f.holds in
+    (
+      ap (λ (x : Item). x.0) i ∙ q,
+      (
+        subst (λ (x : Forest). IsShapedPart (content e) (parts_in x)) (sym same)
+        (shaped_part e (p, holes, numbers, length below) (parts_in f.trees) i count (ap (is_shared (steps_of p)) f.parts ∙ shared_by (steps_of p) t.chunks (templates_apart p) t.fits)),
+        subst AreShaped (sym same) f.shaped,
+        tt,
+      ),
+    )
+
+no_holes : length {A = List ℕ} [] ≡ hole_count part.Program
+unfolding steps_of holes_of
+no_holes = refl
+
+pub built_is_shaped : (g : Grammar) (states : List StartStates) (program : Program) → IsBuilt g states program → IsShaped program
+built_is_shaped g states program built =
+    let s = whole_shaped part.Program [] [] (program_lines g built.modules) program.entries.items refl no_holes (program_takes g states built.modules built.each) built.parts in
+    record { first = s.0; trees = s.1 }

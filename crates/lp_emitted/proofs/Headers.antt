@@ -15,7 +15,8 @@ use Rattle.lp_build.specs.Functions.{clause_lines, name_holes, name_part, result
 use Rattle.lp_build.specs.declared.functions.FunctionName.{FunctionName}
 use Rattle.lp_build.specs.declared.functions.FunctionName.TheVariants as name
 use Rattle.lp_table.specs.Headers.{header_lines}
-use Rattle.lp_emitted.specs.Temp.{is_member, hole_count}
+use Rattle.lp_program.specs.Reads.{hole_count}
+use Rattle.lp_program.specs.Printed.{is_member}
 use Rattle.lp_emitted.proofs.Sharing.{class_steps}
 use Rattle.lp_emitted.proofs.Rows.{Takes, beside, either, leaf_one, optional_none, optional_one, over_one, text_many}
 

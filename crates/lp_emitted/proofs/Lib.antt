@@ -1,3 +1,15 @@
 pub mod Sharing
 pub mod Apart
 pub mod Rows
+pub mod Headers
+pub mod Tables
+pub mod Machines
+pub mod Tokens
+pub mod Reductions
+pub mod TableModules
+pub mod Actions
+pub mod Ascent
+pub mod AscentModules
+pub mod Programs
+pub mod Forests
+pub mod Halves

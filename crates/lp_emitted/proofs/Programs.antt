@@ -15,21 +15,19 @@ use Rattle.lp_repr.specs.declared.repr.LrCodeGeneration.{LrCodeGeneration}
 use Rattle.lp_repr.specs.declared.repr.LrCodeGeneration.TheVariants.{TableDriven, RecursiveAscent, TestAll}
 use Rattle.lp_repr.specs.declared.repr.MatchEntry.{MatchEntry}
 use Rattle.lp_repr.specs.declared.repr.NonterminalString.{NonterminalString}
-use Rattle.lp_tree.specs.ProgramTree.{Item, leaf, program_items}
-use Rattle.lp_tree.specs.declared.tree.Program.{Program}
-use Rattle.lp_build.specs.Built.{over}
+use Rattle.lp_tree.specs.ProgramTree.{Item, leaf}
 use Rattle.lp_build.specs.Frame.{hole_if, intern_row, triple_holes, triple_part, white_space}
-use Rattle.lp_build.specs.declared.frame.InternEntry.{InternEntry}
 use Rattle.lp_build.specs.declared.frame.Triples.{Triples}
 use Rattle.lp_build.specs.declared.frame.Triples.TheVariants.{Located, Plain}
 use Rattle.lp_ascent.specs.BuiltAscent.{built_ascent_at, built_ascent_for}
 use Rattle.lp_table.specs.BuiltTable.{built_for, built_table_at}
 use Rattle.lp_table.specs.Starts.{start_for}
 use Rattle.lp_actions.specs.ActionFunctions.{action_functions}
-use Rattle.lp_emit.specs.Built.{AreFollowed, AreModules, IsBuilt, IsModuleBy, IsModuleWithName, attribute_lines, front_lines, implementations, intern_entry, intern_lines, joined_clauses, reexport_lines, token_lines, triple_lines, use_lines}
+use Rattle.lp_emit.specs.Built.{AreFollowed, AreModules, IsModuleBy, attribute_lines, front_lines, implementations, intern_entry, intern_lines, joined_clauses, reexport_lines, token_lines, triple_lines, use_lines}
 use Rattle.lp_emitted.proofs.Actions.{action_functions_many}
 use Rattle.lp_emitted.proofs.AscentModules.{built_ascent_one}
-use Rattle.lp_emitted.proofs.Rows.{AreTrees, Takes, beside, many_flat, many_map, many_one, one_leaf, optional_if, optional_none, optional_one, over_one, over_trees, pairs_more, pairs_none}
+use Rattle.lp_emitted.proofs.Rows.{Takes, beside, many_flat, many_map, many_one, one_leaf, optional_if, optional_none, optional_one, over_one, pairs_more, pairs_none}
+use Rattle.lp_emitted.proofs.Sharing.{class_steps}
 use Rattle.lp_emitted.proofs.TableModules.{built_table_one, inner_uses_take}
 
 front_takes : (g : Grammar) → Takes (step.Many class.Attribute ∷ step.Many class.Use ∷ step.One class.StandardUses ∷ []) (front_lines g)
@@ -101,10 +99,12 @@ triple_by None (Plain t e) visibility parameters triple error = one_leaf class.T
 triple_one : (g : Grammar) → Takes (step.One class.ToTriple ∷ []) (triple_lines g)
 triple_one g = triple_by (joined_clauses g.where_clauses) (implementations g g.types.loc) _ _ _ _
 
--- the whole program
-pub program_trees : (g : Grammar) (states : List StartStates) (program : Program) → IsBuilt g states program → AreTrees (program_items program) (part.Program ∷ [])
-unfolding steps_of holes_of members_of
-program_trees g states program built =
-    subst (λ items. AreTrees items (part.Program ∷ [])) (sym built.parts)
-    (over_trees part.Program [] [] _ refl
-    (beside (beside (beside (beside (front_takes g) (modules_take g states (length g.start_nonterminals.entries) built.modules built.each)) (tokens_optional g g.intern_token)) (action_functions_many g)) (triple_one g)))
+-- what stands below the program
+abbrev pub program_lines : Grammar → List Item → List Item
+program_lines g modules = (((front_lines g ++ modules) ++ token_lines g g.intern_token) ++ action_functions g) ++ triple_lines g
+
+pub program_takes : (g : Grammar) (states : List StartStates) (modules : List Item) → AreModules g states (length g.start_nonterminals.entries) modules →
+    Takes (class_steps (steps_of part.Program)) (program_lines g modules)
+unfolding steps_of
+program_takes g states modules each =
+    beside (beside (beside (beside (front_takes g) (modules_take g states (length g.start_nonterminals.entries) modules each)) (tokens_optional g g.intern_token)) (action_functions_many g)) (triple_one g)

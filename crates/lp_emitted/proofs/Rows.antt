@@ -9,7 +9,9 @@ use Rattle.lp_form.specs.declared.part.Part.{Part}
 use Rattle.lp_form.specs.declared.template.Step.{Step}
 use Rattle.lp_form.specs.declared.template.Step.TheVariants as step
 use Rattle.lp_tree.specs.ProgramTree.{Item, leaf}
-use Rattle.lp_emitted.specs.Temp.{is_member, are_pairs, may_have, is_shared, hole_count}
+use Rattle.lp_program.specs.Reads.{are_pairs, may_have, hole_count}
+use Rattle.lp_program.specs.Printed.{is_member}
+use Rattle.lp_laws.specs.WellFormed.{is_shared}
 use Rattle.lp_emitted.proofs.Apart.{templates_apart}
 use Rattle.lp_emitted.proofs.Sharing.{class_steps, fit, joined, shared_by}
 

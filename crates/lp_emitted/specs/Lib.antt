@@ -1,1 +1,3 @@
-pub mod Temp
+pub mod Shapes
+pub mod TextsFit
+pub mod Laws
