@@ -1,5 +1,5 @@
 -- The trees of a list of parts, from its parts in preorder.
-use Rattle.std.proofs.Common.{◌≡◌, ℕ, ℤ, ◌+◌, List, [], ◌∷◌, ◌++◌, length, map, refl, sym, ap, ◌∙◌, subst, arith}
+use Rattle.std.proofs.Common.{◌≡◌, ℕ, suc, ℤ, true, List, [], ◌∷◌, ◌++◌, length, map, refl, sym, ap, ◌∙◌, subst, arith}
 use Rattle.lp_form.specs.Templates.{steps_of, holes_of}
 use Rattle.lp_form.specs.declared.part.Part.{Part}
 use Rattle.lp_form.specs.declared.part.Part.TheVariants as part
@@ -32,11 +32,11 @@ pub record Cut (es : List Entry) (xs ys : List Item) : Type 0 where
 not_empty : (x : Item) (xs : List Item) → [] ≡ x ∷ xs → ⊥
 not_empty x xs h = let e : length {A = Item} [] ≡ length (x ∷ xs) = ap length h in omega (arith, e)
 
-head_of : Item → List Item → Item
+abbrev head_of : Item → List Item → Item
 head_of i [] = i
 head_of i (x ∷ xs) = x
 
-tail_of : List Item → List Item
+abbrev tail_of : List Item → List Item
 tail_of [] = []
 tail_of (x ∷ xs) = xs
 
@@ -62,7 +62,7 @@ pub record Grown (es : List Entry) (ps : List Part) : Type 0 where
 
 length-items : (es : List Entry) → length (map item es) ≡ length es
 length-items [] = refl
-length-items (e ∷ es) = ap (λ n. 1 + n) (length-items es)
+length-items (e ∷ es) = ap suc (length-items es)
 
 -- a part over the parts that it counts
 over_them : (e : Entry) (es : List Entry) (below : List Item) (i : Item) → item e ≡ i → i.3 ≡ length below → map item es ≡ below → e.below ≡ length es
