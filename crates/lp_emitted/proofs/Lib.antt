@@ -13,3 +13,5 @@ pub mod AscentModules
 pub mod Programs
 pub mod Forests
 pub mod Halves
+pub mod Cutting
+pub mod UsesAndCodes

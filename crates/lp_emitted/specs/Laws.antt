@@ -1,10 +1,12 @@
--- What the laws say: what is built is well formed.
-use Rattle.std.specs.Prelude.{List}
+-- What the laws say: what is built is well formed where its texts fit, and which of them do.
+use Rattle.std.specs.Prelude.{ℕ, List, None}
+use Rattle.std.specs.Str.{IsUtf8}
 use Rattle.lp_repr.specs.declared.lr1.StartStates.{StartStates}
 use Rattle.lp_repr.specs.declared.repr.Grammar.{Grammar}
+use Rattle.lp_texts.specs.UserCode.{AnswersCode, AnswersUse}
 use Rattle.lp_tree.specs.declared.tree.Program.{Program}
 use Rattle.lp_emit.specs.Built.{IsBuilt}
-use Rattle.lp_laws.specs.WellFormed.{IsWellFormed}
+use Rattle.lp_laws.specs.WellFormed.{IsCodeText, IsUseText, IsWellFormed}
 use Rattle.lp_emitted.specs.Shapes.{IsShaped}
 use Rattle.lp_emitted.specs.TextsFit.{TextsFit}
 
@@ -12,9 +14,14 @@ use Rattle.lp_emitted.specs.TextsFit.{TextsFit}
 abbrev pub BuiltIsShaped : Type 0
 BuiltIsShaped = (g : Grammar) (states : List StartStates) (program : Program) → IsBuilt g states program → IsShaped program
 
--- so it is well formed exactly where its texts fit
+-- so it is well formed where its texts fit
 abbrev pub ShapedIsWellFormed : Type 0
 ShapedIsWellFormed = (program : Program) → IsShaped program → TextsFit program → IsWellFormed program
 
-abbrev pub WellFormedFits : Type 0
-WellFormedFits = (program : Program) → IsWellFormed program → TextsFit program
+-- a use that meets the rule of its kind stops at the `;` behind it, whatever stands on the lines behind
+abbrev pub UsesStop : Type 0
+UsesStop = (text : List ℕ) → IsUtf8 text → AnswersUse text None → IsUseText text
+
+-- and user code at the `}` on the next line
+abbrev pub CodesStop : Type 0
+CodesStop = (text : List ℕ) → IsUtf8 text → AnswersCode text None → IsCodeText text

@@ -1,6 +1,6 @@
 //! Laws between the building and the printing of programs.
 
-ghost use Rattle.lp_emitted.specs.Laws.{BuiltIsShaped, ShapedIsWellFormed};
+ghost use Rattle.lp_emitted.specs.Laws.{BuiltIsShaped, CodesStop, ShapedIsWellFormed, UsesStop};
 
 /// The program of a grammar and its states has its parts below one another as the templates say,
 /// whatever the grammar, its texts and its tables are. So it is well formed where its texts may
@@ -8,4 +8,11 @@ ghost use Rattle.lp_emitted.specs.Laws.{BuiltIsShaped, ShapedIsWellFormed};
 pub fn built()
     ensures shaped { BuiltIsShaped }
     ensures well_formed { ShapedIsWellFormed }
+{}
+
+/// Uses and user code that meet the rules of a grammar's texts end where the printed `;` and `}`
+/// stand, whatever is printed behind them.
+pub fn cuts()
+    ensures uses { UsesStop }
+    ensures codes { CodesStop }
 {}
