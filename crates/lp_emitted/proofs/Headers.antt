@@ -16,15 +16,14 @@ use Rattle.lp_build.specs.declared.functions.FunctionName.{FunctionName}
 use Rattle.lp_build.specs.declared.functions.FunctionName.TheVariants as name
 use Rattle.lp_table.specs.Headers.{header_lines}
 use Rattle.lp_program.specs.Reads.{hole_count}
-use Rattle.lp_program.specs.Printed.{is_member}
 use Rattle.lp_emitted.proofs.Sharing.{class_steps}
-use Rattle.lp_emitted.proofs.Rows.{Takes, beside, either, leaf_one, optional_none, optional_one, over_one, text_many}
+use Rattle.lp_emitted.proofs.Rows.{Told, Takes, beside, either, leaf_one, may_stand, optional_none, optional_one, over_one, text_many}
 
-result_one : (answer : List ℕ) → Takes (step.One class.ResultLine ∷ []) (result_line answer)
+result_one : {T : Told} (answer : List ℕ) → Takes T (step.One class.ResultLine ∷ []) (result_line answer)
 unfolding steps_of holes_of members_of
 result_one answer = either (pointwise nat_eq answer (codes "()")) (leaf_one class.ResultLine part.ResultUnit {holes = []} refl) (leaf_one class.ResultLine part.ResultType {holes = answer ∷ []} refl)
 
-clauses_optional : (clauses : List (List ℕ)) → Takes (step.Optional class.Clauses ∷ []) (clause_lines clauses)
+clauses_optional : {T : Told} (clauses : List (List ℕ)) → Takes T (step.Optional class.Clauses ∷ []) (clause_lines clauses)
 unfolding steps_of holes_of members_of
 clauses_optional [] = optional_none class.Clauses
 clauses_optional (c ∷ cs) = optional_one (over_one class.Clauses part.Clauses {holes = []} {below = text_rows part.ClauseRow (c ∷ cs)} refl refl (text_many class.ClauseRow part.ClauseRow refl (c ∷ cs)))
@@ -33,8 +32,8 @@ clauses_optional (c ∷ cs) = optional_one (over_one class.Clauses part.Clauses 
 abbrev header_steps : List Step
 header_steps = step.Many class.TypeRow ∷ step.Many class.ParameterRow ∷ step.One class.ResultLine ∷ step.Optional class.Clauses ∷ []
 
-header_below : (generics parameters : List (List ℕ)) (answer : List ℕ) (clauses : List (List ℕ)) →
-    Takes header_steps (((text_rows part.TypeRow generics ++ text_rows part.ParameterRow parameters) ++ result_line answer) ++ clause_lines clauses)
+header_below : {T : Told} (generics parameters : List (List ℕ)) (answer : List ℕ) (clauses : List (List ℕ)) →
+    Takes T header_steps (((text_rows part.TypeRow generics ++ text_rows part.ParameterRow parameters) ++ result_line answer) ++ clause_lines clauses)
 unfolding steps_of holes_of members_of
 header_below generics parameters answer clauses =
     beside (beside (beside (text_many class.TypeRow part.TypeRow refl generics) (text_many class.ParameterRow part.ParameterRow refl parameters)) (result_one answer)) (clauses_optional clauses)
@@ -49,9 +48,9 @@ unfolding steps_of holes_of
 named_holes (name.Parse visibility) = refl
 named_holes _ = refl
 
-pub header_one : (class : Class) (n : FunctionName) (generics parameters : List (List ℕ)) (answer : List ℕ) (clauses : List (List ℕ)) → is_member class (name_part n) ≡ true →
-    Takes (step.One class ∷ []) (header_lines n generics parameters answer clauses)
+pub header_one : {T : Told} (class : Class) (n : FunctionName) (generics parameters : List (List ℕ)) (answer : List ℕ) (clauses : List (List ℕ)) → may_stand class (name_part n) ≡ true →
+    Takes T (step.One class ∷ []) (header_lines n generics parameters answer clauses)
 unfolding header_lines
-header_one class n generics parameters answer clauses member =
-    over_one class (name_part n) {holes = name_holes n} member (named_holes n)
-    (subst (λ ss. Takes ss (((text_rows part.TypeRow generics ++ text_rows part.ParameterRow parameters) ++ result_line answer) ++ clause_lines clauses)) (sym (named_steps n)) (header_below generics parameters answer clauses))
+header_one {T} class n generics parameters answer clauses stands =
+    over_one class (name_part n) {holes = name_holes n} stands (named_holes n)
+    (subst (λ ss. Takes T ss (((text_rows part.TypeRow generics ++ text_rows part.ParameterRow parameters) ++ result_line answer) ++ clause_lines clauses)) (sym (named_steps n)) (header_below generics parameters answer clauses))

@@ -22,64 +22,64 @@ use Rattle.lp_table.specs.MachineLines.{acceptance, definition, drive_call, erro
 use Rattle.lp_table.specs.Pieces.{unless_empty, variant_types_shown}
 use Rattle.lp_table.specs.Starts.{Start}
 use Rattle.lp_emitted.proofs.Headers.{header_one}
-use Rattle.lp_emitted.proofs.Rows.{Takes, beside, leaf_one, many_map, many_more, many_none, many_one, one_leaf, optional_none, optional_one, over_one, text_many}
+use Rattle.lp_emitted.proofs.Rows.{Told, Takes, beside, leaf_one, many_map, many_more, many_none, many_one, one_leaf, optional_none, optional_one, over_one, text_many}
 
 -- where clauses on one line
-pub where_optional : (text : Option (List ℕ)) → Takes (step.Optional class.WhereLine ∷ []) (text_if part.WhereLine text)
+pub where_optional : {T : Told} (text : Option (List ℕ)) → Takes T (step.Optional class.WhereLine ∷ []) (text_if part.WhereLine text)
 unfolding steps_of holes_of members_of
 where_optional None = optional_none class.WhereLine
 where_optional (Some text) = optional_one (one_leaf class.WhereLine part.WhereLine _ _ refl)
 
-variants_many : (n : ℕ) (types : List (List ℕ)) → Takes (step.Many class.VariantRow ∷ []) (variant_rows n types)
+variants_many : {T : Told} (n : ℕ) (types : List (List ℕ)) → Takes T (step.Many class.VariantRow ∷ []) (variant_rows n types)
 unfolding steps_of holes_of members_of
 variants_many n [] = many_none class.VariantRow
 variants_many n (ty ∷ types) = many_more (many_one (one_leaf class.VariantRow part.VariantRow _ _ refl)) (variants_many (n + 1) types)
 
-pub symbol_values_one : (g : Grammar) → Takes (step.One class.SymbolEnum ∷ []) (symbol_values g)
+pub symbol_values_one : {T : Told} (g : Grammar) → Takes T (step.One class.SymbolEnum ∷ []) (symbol_values g)
 unfolding steps_of holes_of members_of symbol_values
 symbol_values_one g = over_one class.SymbolEnum part.SymbolEnum refl refl
     (beside (where_optional (unless_empty (symbol_clauses_text g))) (variants_many 0 (variant_types_shown g)))
 
-pub definition_one : (g : Grammar) → Takes (step.One class.MachineStruct ∷ []) (definition g)
+pub definition_one : {T : Told} (g : Grammar) → Takes T (step.One class.MachineStruct ∷ []) (definition g)
 unfolding steps_of holes_of members_of definition
 definition_one g = over_one class.MachineStruct part.MachineStruct refl refl
     (many_map class.FieldRow tree_line (λ f. one_leaf class.FieldRow part.FieldRow _ _ refl) (machine_fields g))
 
-recovery_one : (variant : Option (List ℕ)) → Takes (step.One class.RecoveryMethods ∷ []) (recovery_lines variant)
+recovery_one : {T : Told} (variant : Option (List ℕ)) → Takes T (step.One class.RecoveryMethods ∷ []) (recovery_lines variant)
 unfolding steps_of holes_of members_of
 recovery_one None = one_leaf class.RecoveryMethods part.RecoveryOff _ _ refl
 recovery_one (Some variant) = one_leaf class.RecoveryMethods part.RecoveryOn _ _ refl
 
-pub implementation_one : (g : Grammar) (states : List Lr1State) (s : Start) → Takes (step.One class.MachineImpl ∷ []) (implementation g states s)
+pub implementation_one : {T : Told} (g : Grammar) (states : List Lr1State) (s : Start) → Takes T (step.One class.MachineImpl ∷ []) (implementation g states s)
 unfolding steps_of holes_of members_of implementation
 implementation_one g states s = over_one class.MachineImpl part.MachineImpl refl refl
     (beside (recovery_one (recovery_variant g)) (text_many class.SelfRow part.SelfRow refl (names_of g)))
 
-pub expected_list_one : (g : Grammar) (states : List Lr1State) → Takes (step.One class.ExpectedFromStates ∷ []) (expected_list g states)
+pub expected_list_one : {T : Told} (g : Grammar) (states : List Lr1State) → Takes T (step.One class.ExpectedFromStates ∷ []) (expected_list g states)
 unfolding steps_of holes_of members_of expected_list
 expected_list_one g states = over_one class.ExpectedFromStates part.ExpectedFromStates refl refl
     (header_one class.HeaderExpectedFromStates name.ExpectedTokensFromStates (machine_generics g) (states_parameter g states ∷ phantom_parameter g ∷ []) strings_type (machine_clause_texts g) refl)
 
-simulated_one : (n : ℕ) (reduced : Option Reduced) → Takes (step.One class.SimulateRow ∷ []) (simulated n reduced ∷ [])
+simulated_one : {T : Told} (n : ℕ) (reduced : Option Reduced) → Takes T (step.One class.SimulateRow ∷ []) (simulated n reduced ∷ [])
 unfolding steps_of holes_of members_of
 simulated_one n None = one_leaf class.SimulateRow part.SimulateAccept _ _ refl
 simulated_one n (Some r) = one_leaf class.SimulateRow part.SimulateArm _ _ refl
 
-simulated_many : (g : Grammar) (s : Start) (n : ℕ) (ps : List Production) → Takes (step.Many class.SimulateRow ∷ []) (simulated_from g s n ps)
+simulated_many : {T : Told} (g : Grammar) (s : Start) (n : ℕ) (ps : List Production) → Takes T (step.Many class.SimulateRow ∷ []) (simulated_from g s n ps)
 simulated_many g s n [] = many_none class.SimulateRow
 simulated_many g s n (p ∷ ps) = many_more (many_one (simulated_one n (reduced_of g s p))) (simulated_many g s (n + 1) ps)
 
-pub simulation_one : (g : Grammar) (states : List Lr1State) (s : Start) → Takes (step.One class.SimulateReduce ∷ []) (simulation g states s)
+pub simulation_one : {T : Told} (g : Grammar) (states : List Lr1State) (s : Start) → Takes T (step.One class.SimulateReduce ∷ []) (simulation g states s)
 unfolding steps_of holes_of members_of simulation
 simulation_one g states s = over_one class.SimulateReduce part.SimulateReduce {holes = []} refl refl
     (beside (header_one class.HeaderSimulateReduce name.SimulateReduce (machine_generics g) (index_parameter g states ∷ phantom_parameter g ∷ []) (simulated_answer g) (machine_clause_texts g) refl)
     (simulated_many g s 0 (productions_of g)))
 
-pub acceptance_one : (g : Grammar) (states : List Lr1State) → Takes (step.One class.Accepts ∷ []) (acceptance g states)
+pub acceptance_one : {T : Told} (g : Grammar) (states : List Lr1State) → Takes T (step.One class.Accepts ∷ []) (acceptance g states)
 unfolding steps_of holes_of members_of acceptance
 acceptance_one g states = over_one class.Accepts part.Accepts refl refl
     (header_one class.HeaderAccepts name.Accepts (machine_generics g) (error_state_parameter g states ∷ states_parameter g states ∷ integer_parameter g ∷ phantom_parameter g ∷ []) (codes "bool") (machine_clause_texts g) refl)
 
-pub drive_one : (g : Grammar) → Takes (step.One class.Drive ∷ []) (drive_call g)
+pub drive_one : {T : Told} (g : Grammar) → Takes T (step.One class.Drive ∷ []) (drive_call g)
 unfolding steps_of holes_of members_of drive_call
 drive_one g = over_one class.Drive part.Drive refl refl (text_many class.DriveRow part.DriveRow refl (names_of g))

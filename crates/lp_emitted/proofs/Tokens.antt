@@ -20,32 +20,32 @@ use Rattle.lp_table.specs.Pieces.{variant_text}
 use Rattle.lp_table.specs.TokenLines.{Known, captured_value, group_arm, group_patterns, groups_of, in_group, integer_row, integer_rows, known_terminals, number_of, number_type, symbols_header, token_index, token_numbers, token_reference, token_symbols, token_value}
 use Rattle.lp_table.specs.declared.tokens.Group.{Group}
 use Rattle.lp_emitted.proofs.Headers.{header_one}
-use Rattle.lp_emitted.proofs.Rows.{Takes, beside, many_flat, many_more, many_none, many_one, one_leaf, over_one}
+use Rattle.lp_emitted.proofs.Rows.{Told, Takes, beside, many_flat, many_more, many_none, many_one, one_leaf, over_one}
 
-integer_many : (n : ℕ) (p : Option TokenPattern) → Takes (step.Many class.IntegerRow ∷ []) (integer_row n p)
+integer_many : {T : Told} (n : ℕ) (p : Option TokenPattern) → Takes T (step.Many class.IntegerRow ∷ []) (integer_row n p)
 unfolding steps_of holes_of members_of
 integer_many n None = many_none class.IntegerRow
 integer_many n (Some p) = many_one (one_leaf class.IntegerRow part.IntegerRow _ _ refl)
 
-integers_many : (g : Grammar) (n : ℕ) (ts : List TerminalString) → Takes (step.Many class.IntegerRow ∷ []) (integer_rows g n ts)
+integers_many : {T : Told} (g : Grammar) (n : ℕ) (ts : List TerminalString) → Takes T (step.Many class.IntegerRow ∷ []) (integer_rows g n ts)
 integers_many g n [] = many_none class.IntegerRow
 integers_many g n (t ∷ ts) = many_more (integer_many n (get terminal_cmp g.conversions t)) (integers_many g (n + 1) ts)
 
-pub token_numbers_one : (g : Grammar) → Takes (step.One class.TokenToInteger ∷ []) (token_numbers g)
+pub token_numbers_one : {T : Told} (g : Grammar) → Takes T (step.One class.TokenToInteger ∷ []) (token_numbers g)
 unfolding steps_of holes_of members_of token_numbers
 token_numbers_one g = over_one class.TokenToInteger part.TokenToInteger {holes = []} refl refl
     (beside (header_one class.HeaderTokenToInteger name.TokenToInteger (generics_of g) (token_reference g ∷ phantom_parameter g ∷ []) number_type (clauses_of g) refl)
     (integers_many g 0 (terminals_of g)))
 
-symbol_one : (terminals : List ℕ) (patterns : List (List ℕ)) (variant captures : List ℕ) → Takes (step.One class.SymbolArm ∷ []) (symbol_row terminals patterns variant captures)
+symbol_one : {T : Told} (terminals : List ℕ) (patterns : List (List ℕ)) (variant captures : List ℕ) → Takes T (step.One class.SymbolArm ∷ []) (symbol_row terminals patterns variant captures)
 unfolding steps_of holes_of members_of
 symbol_one terminals [] variant captures = one_leaf class.SymbolArm part.SymbolArm _ _ refl
 symbol_one terminals (p ∷ ps) variant captures = one_leaf class.SymbolArm part.SymbolMatch _ _ refl
 
-group_many : (prefix : List ℕ) (known : List Known) (group : Group) → Takes (step.Many class.SymbolArm ∷ []) (group_arm prefix known group)
+group_many : {T : Told} (prefix : List ℕ) (known : List Known) (group : Group) → Takes T (step.Many class.SymbolArm ∷ []) (group_arm prefix known group)
 group_many prefix known group = many_one (symbol_one (map number_of (in_group group known)) (group_patterns prefix group.captures (in_group group known)) (variant_text group.variant) (captured_value prefix group.captures))
 
-pub token_symbols_one : (g : Grammar) → Takes (step.One class.TokenToSymbol ∷ []) (token_symbols g)
+pub token_symbols_one : {T : Told} (g : Grammar) → Takes T (step.One class.TokenToSymbol ∷ []) (token_symbols g)
 unfolding steps_of holes_of members_of token_symbols
 token_symbols_one g = over_one class.TokenToSymbol part.TokenToSymbol {holes = []} refl refl
     (beside (header_one class.HeaderTokenToSymbol name.TokenToSymbol (generics_of g) (token_index g ∷ token_value g ∷ phantom_parameter g ∷ []) (symbol_text g) (clauses_of g) refl)
