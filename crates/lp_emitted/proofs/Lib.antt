@@ -15,3 +15,5 @@ pub mod Forests
 pub mod Halves
 pub mod Cutting
 pub mod UsesAndCodes
+pub mod EntriesFit
+pub mod Fitting

@@ -6,9 +6,10 @@ use Rattle.lp_repr.specs.declared.repr.Grammar.{Grammar}
 use Rattle.lp_texts.specs.UserCode.{AnswersCode, AnswersUse}
 use Rattle.lp_tree.specs.declared.tree.Program.{Program}
 use Rattle.lp_emit.specs.Built.{IsBuilt}
+use Rattle.lp_emit.specs.Causes.{MayBeEmitted}
 use Rattle.lp_laws.specs.WellFormed.{IsCodeText, IsUseText, IsWellFormed}
 use Rattle.lp_emitted.specs.Shapes.{IsShaped}
-use Rattle.lp_emitted.specs.TextsFit.{TextsFit}
+use Rattle.lp_emitted.specs.TextsFit.{AreHolesFit, AreStepsFit, AreUtf8}
 
 -- the parts of each program that is built stand below one another as the templates say, for all grammars and tables
 abbrev pub BuiltIsShaped : Type 0
@@ -16,7 +17,15 @@ BuiltIsShaped = (g : Grammar) (states : List StartStates) (program : Program) �
 
 -- so it is well formed where its texts fit
 abbrev pub ShapedIsWellFormed : Type 0
-ShapedIsWellFormed = (program : Program) → IsShaped program → TextsFit program → IsWellFormed program
+ShapedIsWellFormed = (program : Program) → IsShaped program → AreHolesFit program → AreStepsFit program → IsWellFormed program
+
+-- where no cause to refuse holds, the uses, user code and tables of the program that is built fit
+abbrev pub EmittedFits : Type 0
+EmittedFits = (g : Grammar) (states : List StartStates) (program : Program) → MayBeEmitted g states → AreUtf8 g → IsBuilt g states program → AreStepsFit program
+
+-- and it is well formed where its holes fit
+abbrev pub EmittedIsWellFormed : Type 0
+EmittedIsWellFormed = (g : Grammar) (states : List StartStates) (program : Program) → MayBeEmitted g states → AreUtf8 g → IsBuilt g states program → AreHolesFit program → IsWellFormed program
 
 -- a use that meets the rule of its kind stops at the `;` behind it, whatever stands on the lines behind
 abbrev pub UsesStop : Type 0
