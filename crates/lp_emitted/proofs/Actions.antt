@@ -4,7 +4,6 @@ use Rattle.std.proofs.lemmas.List.Elements.{All-head, All-tail}
 use Rattle.lp_form.specs.Classes.{members_of}
 use Rattle.lp_form.specs.Templates.{steps_of, holes_of}
 use Rattle.lp_form.specs.declared.class.Class.TheVariants as class
-use Rattle.lp_form.specs.declared.part.Part.{Part}
 use Rattle.lp_form.specs.declared.part.Part.TheVariants as part
 use Rattle.lp_form.specs.declared.template.Step.TheVariants as step
 use Rattle.lp_repr.specs.declared.repr.ActionFnDefn.{ActionFnDefn}
@@ -20,10 +19,10 @@ use Rattle.lp_build.specs.Actions.{call_part, outer_part}
 use Rattle.lp_build.specs.declared.functions.FunctionName.TheVariants as name
 use Rattle.lp_table.specs.Headers.{clauses_of, declared_texts, generics_of, grammar_header}
 use Rattle.lp_actions.specs.Parameters.{action_parameters, return_text, width}
-use Rattle.lp_actions.specs.Inlines.{action_fails, call_if, calls_from, inline_call, inline_lines, inlined_count, inner_arguments, outer_arguments, outer_call, span_if, spans_from, sum_up_to, total_width, type_arguments}
+use Rattle.lp_actions.specs.Inlines.{action_fails, call_if, calls_from, inline_lines, inlined_count, inner_arguments, outer_arguments, span_if, spans_from, sum_up_to, total_width, type_arguments}
 use Rattle.lp_actions.specs.ActionFunctions.{action_functions, action_lines, functions_from, has_parameters, kind_lines, kind_part}
 use Rattle.lp_emitted.proofs.Headers.{header_one}
-use Rattle.lp_emitted.proofs.Rows.{Told, Takes, beside, either, many_more, many_none, many_one, one_leaf, over_one, text_many, told_leaf}
+use Rattle.lp_emitted.proofs.Rows.{Told, Takes, beside, many_more, many_none, many_one, one_leaf, over_one, text_many, told_leaf}
 
 span_many : {T : Told} (prefix : List ℕ) (total n before : ℕ) (s : InlinedSymbol) → Takes T (step.Many class.InlineSpan ∷ []) (span_if prefix total n before s)
 unfolding steps_of holes_of members_of

@@ -1,6 +1,5 @@
 -- The functions of states of recursive ascent.
-use Rattle.std.proofs.Common.{◌≡◌, ℕ, zero, suc, ◌+◌, ◌-◌, ◌==◌, ◌&&◌, not, nat_lt, Bool, true, false, cond, List, [], ◌∷◌, ◌++◌, length, map, decimal, Option, Some, None, if◌then◌else◌, refl}
-use Rattle.std.specs.List.{flat_map}
+use Rattle.std.proofs.Common.{◌≡◌, ℕ, zero, suc, ◌+◌, ◌-◌, ◌==◌, not, nat_lt, Bool, true, false, List, [], ◌∷◌, ◌++◌, length, map, decimal, Option, Some, None, if◌then◌else◌, refl}
 use Rattle.std.proofs.lemmas.Bool.{both_ways}
 use Rattle.lp_form.specs.Classes.{members_of}
 use Rattle.lp_form.specs.Templates.{steps_of, holes_of}
@@ -15,7 +14,7 @@ use Rattle.lp_repr.specs.declared.repr.Production.{Production}
 use Rattle.lp_repr.specs.declared.repr.TokenPattern.{TokenPattern}
 use Rattle.lp_tree.specs.ProgramTree.{Item, leaf}
 use Rattle.lp_build.specs.Built.{over, text_rows}
-use Rattle.lp_build.specs.Ascent.{ascent_span, check_lines, first_holes, first_part, last_token, more_tokens, shift_holes, shift_part}
+use Rattle.lp_build.specs.Ascent.{ascent_span, check_lines, last_token, shift_holes, shift_part}
 use Rattle.lp_build.specs.declared.ascent_reduce.AscentSpan.{AscentSpan}
 use Rattle.lp_build.specs.declared.ascent_reduce.AscentSpan.TheVariants as span
 use Rattle.lp_build.specs.declared.functions.FunctionName.TheVariants as name
@@ -25,11 +24,11 @@ use Rattle.lp_table.specs.Pieces.{unless_empty}
 use Rattle.lp_table.specs.Starts.{is_fallible}
 use Rattle.lp_ascent.specs.Slots.{Layout, count_of, has_lookahead, is_cell, layout_at}
 use Rattle.lp_ascent.specs.AnswerLines.{answer_clauses_text, answer_lines, answer_names, answer_row}
-use Rattle.lp_ascent.specs.CallLines.{call_of, call_with, cells_from, taken_lines, with_symbol}
-use Rattle.lp_ascent.specs.ShiftLines.{pattern_at, shift_arm, shift_if, shift_line, shift_lines, shifted_names, shifted_pattern}
-use Rattle.lp_ascent.specs.ReduceLines.{arm_by, arm_on, but_last, ends, first_popped, is_reduced, last_pattern, popped_arguments, popped_span, reduction_arm, reduction_line, reduction_lines, reduction_of, reductions_from, token_patterns}
-use Rattle.lp_ascent.specs.GotoLines.{goes_on, goto_arm, goto_call, goto_lines, gotos_of, named_gotos, optional_top}
-use Rattle.lp_ascent.specs.StateLines.{downwards, error_in, error_lines, error_location, gotos_if, new_cells, state_answer, state_arms, state_header, state_lines, state_parameters, state_with, states_from, tokens_generic}
+use Rattle.lp_ascent.specs.CallLines.{call_of, cells_from, taken_lines, with_symbol}
+use Rattle.lp_ascent.specs.ShiftLines.{pattern_at, shift_if, shift_line, shift_lines, shifted_names, shifted_pattern}
+use Rattle.lp_ascent.specs.ReduceLines.{arm_on, but_last, ends, first_popped, is_reduced, last_pattern, popped_arguments, popped_span, reduction_arm, reduction_line, reduction_lines, reduction_of, reductions_from, token_patterns}
+use Rattle.lp_ascent.specs.GotoLines.{goes_on, goto_arm, goto_lines, gotos_of, named_gotos, optional_top}
+use Rattle.lp_ascent.specs.StateLines.{downwards, error_lines, error_location, gotos_if, new_cells, state_answer, state_arms, state_header, state_lines, state_parameters, states_from, tokens_generic}
 use Rattle.lp_emitted.proofs.Headers.{header_one}
 use Rattle.lp_emitted.proofs.Machines.{where_optional}
 use Rattle.lp_emitted.proofs.Rows.{Told, Takes, beside, either, either_when, many_flat, many_map, many_more, many_none, many_one, one_leaf, optional_if, optional_none, optional_one, over_one, some_more, text_many}

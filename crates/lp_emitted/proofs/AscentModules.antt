@@ -1,5 +1,5 @@
 -- The module of recursive ascent.
-use Rattle.std.proofs.Common.{◌≡◌, ℕ, ◌+◌, Bool, true, false, List, [], ◌∷◌, ◌++◌, length, Option, Some, None, refl}
+use Rattle.std.proofs.Common.{ℕ, ◌+◌, Bool, true, false, List, [], ◌∷◌, Option, Some, None, refl}
 use Rattle.lp_form.specs.Classes.{members_of}
 use Rattle.lp_form.specs.Templates.{steps_of, holes_of}
 use Rattle.lp_form.specs.declared.class.Class.TheVariants as class
@@ -15,10 +15,10 @@ use Rattle.lp_tree.specs.declared.tree.Reduced.{Reduced}
 use Rattle.lp_build.specs.Ascent.{tried}
 use Rattle.lp_build.specs.Built.{over}
 use Rattle.lp_build.specs.Functions.{parser_part}
-use Rattle.lp_table.specs.FrameLines.{inner_uses, is_interned, token_use_lines}
+use Rattle.lp_table.specs.FrameLines.{is_interned}
 use Rattle.lp_table.specs.MachineLines.{reduced_of}
 use Rattle.lp_table.specs.Starts.{Start}
-use Rattle.lp_ascent.specs.BuiltAscent.{ascent_items, ascent_parser, built_ascent, first_call, state_functions, trial_lines, tried_from, with_trials}
+use Rattle.lp_ascent.specs.BuiltAscent.{ascent_items, ascent_parser, built_ascent, first_call, state_functions, trial_lines, tried_from}
 use Rattle.lp_ascent.specs.Slots.{layouts_of}
 use Rattle.lp_emitted.proofs.Ascent.{answer_lines_one, states_many}
 use Rattle.lp_emitted.proofs.Rows.{Told, Takes, beside, many_more, many_none, many_one, one_leaf, over_one}

@@ -1,10 +1,10 @@
 -- The cut of a text that ends at a closer, with more behind that.
-use Rattle.std.proofs.Common.{◌≡◌, ◌⊎◌, ℕ, ◌+◌, ◌-◌, ◌==◌, zero, suc, Bool, true, false, ◌&&◌, ◌||◌, if◌then◌else◌, List, [], ◌∷◌, ◌++◌, length, Option, Some, None, refl, sym, ap, ◌∙◌, subst, inl, inr, ⊎_elim, arith, length-append}
+use Rattle.std.proofs.Common.{◌≡◌, ◌⊎◌, ℕ, ◌+◌, ◌-◌, ◌==◌, zero, suc, Bool, true, false, ◌&&◌, if◌then◌else◌, List, [], ◌∷◌, ◌++◌, length, Option, Some, None, refl, sym, ap, ◌∙◌, subst, inl, inr, ⊎_elim, arith, length-append}
 use Rattle.std.proofs.lemmas.Bool.{both_ways, cond-false}
 use Rattle.lp_tok.specs.Signs.{apostrophe, backslash, hash, letter_r, line_feed, quote, slash, star}
 use Rattle.lp_tok.specs.Scans.{RawEnd, after_comment, after_hashes, after_word, continues_word, end_here, from_char, from_unescaped, hashes, past, past_any, past_hashes, raw_end, starts_word}
 use Rattle.lp_tok.specs.CodePieces.{Fault, Nothing, Piece, Whole, after_quoted, code_piece, ended, hashed_piece, kind_of, past_maybe, quoted_piece, raw_piece, raw_string_piece, slash_piece}
-use Rattle.lp_tok.specs.Cut.{IsInside, MayEnd, Splits, StopsAt, splits_none, splits_one}
+use Rattle.lp_tok.specs.Cut.{MayEnd, Splits, StopsAt, splits_none, splits_one}
 use Rattle.lp_tok.specs.declared.tok.ErrorCode.{ErrorCode}
 use Rattle.lp_tok.specs.declared.tok.ErrorCode.TheVariants.{UnterminatedStringLiteral, UnterminatedBlockComment}
 

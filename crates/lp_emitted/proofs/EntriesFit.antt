@@ -1,12 +1,12 @@
 -- The entries of valid tables are numbers of 32 bits.
-use Rattle.std.proofs.Common.{◌≡◌, ℕ, ◌+◌, ◌<◌, ◌≤◌, zero, suc, ℤ, pos, negsuc, min, max, Bool, true, false, if◌then◌else◌, List, [], ◌∷◌, ◌++◌, length, map, flat_map, fold, get_or, slice_get, All, FitsSigned, Option, Some, None, IfSome, refl, sym, ap, ◌∙◌, subst, arith, length-append}
-use Rattle.std.specs.BTreeMap.{get, values}
+use Rattle.std.proofs.Common.{◌≡◌, ℕ, ◌+◌, ◌<◌, ◌≤◌, zero, suc, max, Bool, true, false, if◌then◌else◌, List, [], ◌∷◌, length, map, flat_map, slice_get, All, FitsSigned, Option, Some, None, IfSome, refl, ap, arith, length-append}
+use Rattle.std.specs.BTreeMap.{get}
 use Rattle.std.specs.Int.{w32}
 use Rattle.std.specs.List.{list_any, range_with_len}
 use Rattle.std.specs.Ordering.{nat_cmp}
-use Rattle.std.proofs.lemmas.List.Elements.{All-append, All-cons, All-from_recursion, All-head, All-map, All-nil, All-tail}
+use Rattle.std.proofs.lemmas.List.Elements.{All-append, All-cons, All-from_recursion, All-head, All-nil, All-tail}
 use Rattle.std.proofs.lemmas.Option.{slice_get-get_or}
-use Rattle.lp_repr.specs.Numbering.{productions_of, rule_of, rules_from, rules_of, terminals_of}
+use Rattle.lp_repr.specs.Numbering.{rule_of, rules_from, rules_of}
 use Rattle.lp_repr.specs.ValidTables.{IsValidState, IsValidTables}
 use Rattle.lp_repr.specs.declared.lr1.Lr1State.{Lr1State}
 use Rattle.lp_repr.specs.declared.lr1.StartStates.{StartStates}

@@ -1,14 +1,13 @@
 -- The uses, user code and tables of a grammar that may be emitted fit.
-use Rattle.std.proofs.Common.{◌≡◌, ℕ, ◌≤◌, min, Bool, true, false, nat_eq, if◌then◌else◌, List, [], ◌∷◌, ◌++◌, length, slice_get, slice_index_or, codes, All, FitsSigned, Some, None, IfSome, subst, arith}
+use Rattle.std.proofs.Common.{◌≡◌, ℕ, ◌≤◌, min, Bool, true, false, if◌then◌else◌, List, [], ◌∷◌, ◌++◌, length, slice_get, slice_index_or, codes, All, FitsSigned, Some, None, IfSome, subst, arith}
 use Rattle.std.specs.BTreeMap.{values}
 use Rattle.std.specs.Int.{w32}
-use Rattle.std.specs.List.{starts_with}
 use Rattle.std.proofs.lemmas.List.Elements.{All-cons, All-nil}
 use Rattle.lp_form.specs.Templates.{steps_of}
 use Rattle.lp_form.specs.Templates as template
 use Rattle.lp_form.specs.declared.template.Step.{Step}
 use Rattle.lp_form.specs.declared.template.Step.TheVariants as step
-use Rattle.lp_repr.specs.Numbering.{productions_of, rules_of, terminals_of}
+use Rattle.lp_repr.specs.Numbering.{productions_of, terminals_of}
 use Rattle.lp_repr.specs.ValidTables.{IsValidTables}
 use Rattle.lp_repr.specs.declared.lr1.StartStates.{StartStates}
 use Rattle.lp_repr.specs.declared.repr.ActionFnDefnKind.{ActionFnDefnKind}
@@ -19,7 +18,6 @@ use Rattle.lp_texts.specs.declared.faults.TextKind.TheVariants.{Use, Code}
 use Rattle.lp_tree.specs.declared.tree.Entry.{Entry}
 use Rattle.lp_tree.specs.declared.tree.Program.{Program}
 use Rattle.lp_program.specs.Trees.{Content, content}
-use Rattle.lp_table.specs.FrameLines.{inner_use}
 use Rattle.lp_laws.specs.WellFormed.{IsCodeText, IsUseText, IsWellFormed, StepFits}
 use Rattle.lp_emit.specs.Built.{IsBuilt}
 use Rattle.lp_emit.specs.Causes.{MayBeEmitted, greatest_of}

@@ -128,7 +128,7 @@ whole_grown {T} p holes numbers below (e ∷ es) q count told t h =
       first = ap (λ (x : Item). x.0) i ∙ q;
       shaped = (
         subst (λ (x : Forest). IsShapedPart (content e) (parts_in x)) (sym same)
-        (shaped_part e (p, holes, numbers, length below) (parts_in f.trees) i count (ap (is_shared (steps_of p)) f.parts ∙ shared_by (steps_of p) t.chunks (templates_apart p) t.fits)),
+            (shaped_part e (p, holes, numbers, length below) (parts_in f.trees) i count (ap (is_shared (steps_of p)) f.parts ∙ shared_by (steps_of p) t.chunks (templates_apart p) t.fits)),
         subst AreShaped (sym same) f.shaped,
         tt,
       );

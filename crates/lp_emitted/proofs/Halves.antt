@@ -1,5 +1,5 @@
 -- A program is well formed where its shape is right and its texts fit.
-use Rattle.std.proofs.Common.{◌≡◌, ℕ, zero, suc, List, [], ◌∷◌, length, take, drop, All}
+use Rattle.std.proofs.Common.{ℕ, zero, suc, List, [], ◌∷◌, length, take, drop, All}
 use Rattle.std.proofs.lemmas.List.Elements.{All-drop, All-head, All-tail, All-take}
 use Rattle.lp_form.specs.declared.part.Part.{Part}
 use Rattle.lp_tree.specs.declared.tree.Entry.{Entry}

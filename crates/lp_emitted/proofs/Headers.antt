@@ -1,15 +1,13 @@
 -- Headers of functions.
-use Rattle.std.proofs.Common.{◌≡◌, ℕ, Bool, true, false, List, [], ◌∷◌, ◌++◌, length, map, codes, nat_eq, refl, sym, ap, subst}
+use Rattle.std.proofs.Common.{◌≡◌, ℕ, true, List, [], ◌∷◌, ◌++◌, length, codes, nat_eq, refl, sym, subst}
 use Rattle.std.specs.Cmp.Lexicographic.{pointwise}
 use Rattle.lp_form.specs.Classes.{members_of}
 use Rattle.lp_form.specs.Templates.{steps_of, holes_of}
 use Rattle.lp_form.specs.declared.class.Class.{Class}
 use Rattle.lp_form.specs.declared.class.Class.TheVariants as class
-use Rattle.lp_form.specs.declared.part.Part.{Part}
 use Rattle.lp_form.specs.declared.part.Part.TheVariants as part
 use Rattle.lp_form.specs.declared.template.Step.{Step}
 use Rattle.lp_form.specs.declared.template.Step.TheVariants as step
-use Rattle.lp_tree.specs.ProgramTree.{Item}
 use Rattle.lp_build.specs.Built.{text_rows}
 use Rattle.lp_build.specs.Functions.{clause_lines, name_holes, name_part, result_line}
 use Rattle.lp_build.specs.declared.functions.FunctionName.{FunctionName}

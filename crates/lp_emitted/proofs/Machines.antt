@@ -1,5 +1,5 @@
 -- The struct that the driver asks, and the values of symbols.
-use Rattle.std.proofs.Common.{◌≡◌, ℕ, ◌+◌, Bool, true, false, List, [], ◌∷◌, ◌++◌, length, map, codes, Option, Some, None, refl}
+use Rattle.std.proofs.Common.{ℕ, ◌+◌, List, [], ◌∷◌, codes, Option, Some, None, refl}
 use Rattle.lp_form.specs.Classes.{members_of}
 use Rattle.lp_form.specs.Templates.{steps_of, holes_of}
 use Rattle.lp_form.specs.declared.class.Class.TheVariants as class
@@ -9,7 +9,6 @@ use Rattle.lp_repr.specs.Numbering.{productions_of}
 use Rattle.lp_repr.specs.declared.lr1.Lr1State.{Lr1State}
 use Rattle.lp_repr.specs.declared.repr.Grammar.{Grammar}
 use Rattle.lp_repr.specs.declared.repr.Production.{Production}
-use Rattle.lp_tree.specs.ProgramTree.{Item}
 use Rattle.lp_tree.specs.declared.tree.Reduced.{Reduced}
 use Rattle.lp_build.specs.Built.{text_if}
 use Rattle.lp_build.specs.Machine.{recovery_lines, simulated}
@@ -17,12 +16,12 @@ use Rattle.lp_build.specs.declared.functions.FunctionName.TheVariants as name
 use Rattle.lp_parts.specs.MachineParameters.{machine_fields}
 use Rattle.lp_parts.specs.Texts.{symbol_clauses_text}
 use Rattle.lp_table.specs.Headers.{names_of}
-use Rattle.lp_table.specs.Machines.{machine_clause_texts, machine_field_lines, machine_generics, tree_line}
+use Rattle.lp_table.specs.Machines.{machine_clause_texts, machine_generics, tree_line}
 use Rattle.lp_table.specs.MachineLines.{acceptance, definition, drive_call, error_state_parameter, expected_list, implementation, index_parameter, integer_parameter, phantom_parameter, recovery_variant, reduced_of, simulated_answer, simulated_from, simulation, states_parameter, strings_type, symbol_values, variant_rows}
 use Rattle.lp_table.specs.Pieces.{unless_empty, variant_types_shown}
 use Rattle.lp_table.specs.Starts.{Start}
 use Rattle.lp_emitted.proofs.Headers.{header_one}
-use Rattle.lp_emitted.proofs.Rows.{Told, Takes, beside, leaf_one, many_map, many_more, many_none, many_one, one_leaf, optional_none, optional_one, over_one, text_many}
+use Rattle.lp_emitted.proofs.Rows.{Told, Takes, beside, many_map, many_more, many_none, many_one, one_leaf, optional_none, optional_one, over_one, text_many}
 
 -- where clauses on one line
 pub where_optional : {T : Told} (text : Option (List ℕ)) → Takes T (step.Optional class.WhereLine ∷ []) (text_if part.WhereLine text)

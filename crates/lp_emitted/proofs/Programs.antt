@@ -1,5 +1,5 @@
 -- The program of a grammar and its states: what stands below it is as its template says.
-use Rattle.std.proofs.Common.{◌≡◌, ℕ, zero, suc, ◌+◌, not, Bool, true, false, List, [], ◌∷◌, ◌++◌, length, map, All, IfSome, slice_get, Option, Some, None, if◌then◌else◌, refl, sym, ap, ◌∙◌, subst}
+use Rattle.std.proofs.Common.{◌≡◌, ℕ, zero, suc, not, Bool, true, false, List, [], ◌∷◌, ◌++◌, length, map, All, IfSome, slice_get, Option, Some, None, if◌then◌else◌, refl, sym, subst}
 use Rattle.std.specs.List.{list_any}
 use Rattle.lp_form.specs.Classes.{members_of}
 use Rattle.lp_form.specs.Templates.{steps_of, holes_of}
@@ -12,18 +12,18 @@ use Rattle.lp_repr.specs.declared.lr1.StartStates.{StartStates}
 use Rattle.lp_repr.specs.declared.repr.Grammar.{Grammar}
 use Rattle.lp_repr.specs.declared.repr.InternToken.{InternToken}
 use Rattle.lp_repr.specs.declared.repr.LrCodeGeneration.{LrCodeGeneration}
-use Rattle.lp_repr.specs.declared.repr.LrCodeGeneration.TheVariants.{TableDriven, RecursiveAscent, TestAll}
+use Rattle.lp_repr.specs.declared.repr.LrCodeGeneration.TheVariants.{RecursiveAscent}
 use Rattle.lp_repr.specs.declared.repr.MatchEntry.{MatchEntry}
 use Rattle.lp_repr.specs.declared.repr.NonterminalString.{NonterminalString}
 use Rattle.lp_tree.specs.ProgramTree.{Item, leaf}
-use Rattle.lp_build.specs.Frame.{hole_if, intern_row, triple_holes, triple_part, white_space}
+use Rattle.lp_build.specs.Frame.{hole_if, intern_row, triple_holes, triple_part}
 use Rattle.lp_build.specs.declared.frame.Triples.{Triples}
 use Rattle.lp_build.specs.declared.frame.Triples.TheVariants.{Located, Plain}
 use Rattle.lp_ascent.specs.BuiltAscent.{built_ascent_at, built_ascent_for}
 use Rattle.lp_table.specs.BuiltTable.{built_for, built_table_at}
 use Rattle.lp_table.specs.Starts.{start_for}
 use Rattle.lp_actions.specs.ActionFunctions.{action_functions}
-use Rattle.lp_emit.specs.Built.{AreFollowed, AreModules, IsModuleBy, attribute_lines, front_lines, implementations, intern_entry, intern_lines, joined_clauses, reexport_lines, token_lines, triple_lines, use_lines}
+use Rattle.lp_emit.specs.Built.{AreFollowed, AreModules, IsModuleBy, front_lines, implementations, intern_entry, intern_lines, joined_clauses, reexport_lines, token_lines, triple_lines}
 use Rattle.lp_emitted.proofs.Actions.{CodesTold, action_functions_many}
 use Rattle.lp_emitted.proofs.AscentModules.{built_ascent_one}
 use Rattle.lp_emitted.proofs.Rows.{Told, Takes, beside, many_all, many_flat, many_map, many_one, one_leaf, optional_if, optional_none, optional_one, over_one, pairs_more, pairs_none, told_leaf}

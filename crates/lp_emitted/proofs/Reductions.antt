@@ -1,5 +1,5 @@
 -- Reductions of table-driven code.
-use Rattle.std.proofs.Common.{◌≡◌, ℕ, ◌+◌, ◌==◌, nat_lt, Bool, true, false, List, [], ◌∷◌, ◌++◌, length, map, codes, decimal, Option, Some, None, refl}
+use Rattle.std.proofs.Common.{ℕ, ◌+◌, ◌==◌, nat_lt, Bool, true, false, List, [], ◌∷◌, ◌++◌, length, map, decimal, Option, Some, None, refl}
 use Rattle.lp_form.specs.Classes.{members_of}
 use Rattle.lp_form.specs.Templates.{steps_of, holes_of}
 use Rattle.lp_form.specs.declared.class.Class.TheVariants as class
@@ -18,7 +18,7 @@ use Rattle.lp_parts.specs.Texts.{generic_names_text, symbol_clauses_text, symbol
 use Rattle.lp_table.specs.Headers.{clauses_of, declared_texts, generics_of}
 use Rattle.lp_table.specs.MachineLines.{phantom_parameter}
 use Rattle.lp_table.specs.Pieces.{unless_empty, variant_types_shown}
-use Rattle.lp_table.specs.ReductionLines.{action_arguments, action_parameter, arms_from, functions_from, if_called, is_called, lookahead_parameter, own_function, own_header, places_type, pop_function, pop_functions, pops_from, produced_of, reduce_answer, reduce_function, reduce_functions, reduce_header, reduction_arm, reduction_body, stack_parameter, symbol_variants, symbols_parameter}
+use Rattle.lp_table.specs.ReductionLines.{action_arguments, action_parameter, arms_from, functions_from, is_called, lookahead_parameter, own_function, own_header, places_type, pop_function, pop_functions, pops_from, produced_of, reduce_answer, reduce_function, reduce_functions, reduce_header, reduction_arm, reduction_body, stack_parameter, symbol_variants, symbols_parameter}
 use Rattle.lp_table.specs.Starts.{Start, is_fallible}
 use Rattle.lp_emitted.proofs.Headers.{header_one}
 use Rattle.lp_emitted.proofs.Machines.{where_optional}

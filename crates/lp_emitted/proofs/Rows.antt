@@ -1,5 +1,5 @@
 -- Lists of parts in preorder that are trees side by side, as steps take them.
-use Rattle.std.proofs.Common.{◌≡◌, ℕ, ℤ, ◌+◌, ◌==◌, ◌&&◌, Bool, true, false, nat_lt, nat_le, if◌then◌else◌, List, [], ◌∷◌, ◌++◌, length, get_or, map, flat_map, All, Option, Some, None, refl, sym, ap, ◌∙◌, subst, append_assoc, append-nil, arith, length-append}
+use Rattle.std.proofs.Common.{◌≡◌, ℕ, ℤ, ◌==◌, ◌&&◌, Bool, true, false, nat_lt, nat_le, if◌then◌else◌, List, [], ◌∷◌, ◌++◌, length, get_or, map, flat_map, All, refl, sym, ap, ◌∙◌, subst, append_assoc, append-nil, arith, length-append}
 use Rattle.std.specs.List.{list_all}
 use Rattle.std.proofs.lemmas.Bool.{and_parts, and_from, both_ways, eqb-true, le-leb, lt-ltb}
 use Rattle.std.proofs.lemmas.List.Elements.{All-head, All-tail}
@@ -213,8 +213,8 @@ some_more {T} {class} {xs} {ys} a b =
       parts = c.parts ++ d.parts;
       trees = trees_then xs ys c.parts d.parts c.trees d.trees;
       fits = and_from (nat_lt 0 (length (c.parts ++ d.parts))) (list_all (is_member class) (c.parts ++ d.parts))
-      (lt-ltb 0 (length (c.parts ++ d.parts)) (omega (arith, e, n)))
-      (list_all-append (is_member class) c.parts d.parts ∙ and_from _ _ h.1 d.fits);
+          (lt-ltb 0 (length (c.parts ++ d.parts)) (omega (arith, e, n)))
+          (list_all-append (is_member class) c.parts d.parts ∙ and_from _ _ h.1 d.fits);
     })
 
 -- pairs, one after another
@@ -246,7 +246,7 @@ pairs_more {T} {first} {second} {xs} {ys} {zs} a b c =
       parts = (k.parts ++ l.parts) ++ m.parts;
       trees = trees_then (xs ++ ys) zs (k.parts ++ l.parts) m.parts (trees_then xs ys k.parts l.parts k.trees l.trees) m.trees;
       fits = ap (λ u. are_pairs first second ((k.parts ++ u) ++ m.parts)) p.1 ∙ ap (λ u. are_pairs first second ((k.parts ++ p.0 ∷ []) ++ u)) q.1
-      ∙ pairs_end first second k.parts p.0 q.0 k.fits p.2 q.2;
+          ∙ pairs_end first second k.parts p.0 q.0 k.fits p.2 q.2;
     })
 
 -- what is over or beside nothing else, as the built lists say it

@@ -1,8 +1,8 @@
 -- Parts that steps share: each step takes one chunk of them, where no class takes what belongs to a later one.
-use Rattle.std.proofs.Common.{◌≡◌, ℕ, ◌+◌, ◌≤◌, ◌==◌, Bool, true, false, cond, not, ◌&&◌, ◌||◌, eqb, leb, ltb, min, if◌then◌else◌, List, [], ◌∷◌, ◌++◌, length, take, drop, refl, sym, ap, ◌∙◌, arith, take_at, drop_at, ⊎_elim, inl, inr}
+use Rattle.std.proofs.Common.{◌≡◌, ◌≤◌, ◌==◌, Bool, true, false, not, ◌&&◌, ◌||◌, leb, ltb, min, if◌then◌else◌, List, [], ◌∷◌, ◌++◌, length, refl, sym, ap, ◌∙◌, arith, take_at, drop_at, ⊎_elim}
 use Rattle.std.specs.List.{list_all, list_any, prefix_len}
-use Rattle.std.proofs.lemmas.Bool.{and_parts, and_from, or_cases, or_left, or_right, or_from, not-true, cases_Bool, cond-true, cond-false, both_ways, eqb-true, leb-true, false_from_ne_true}
-use Rattle.std.proofs.lemmas.List.Folds.{list_all-append, list_any-append, prefix_len-append}
+use Rattle.std.proofs.lemmas.Bool.{and_parts, and_from, or_cases, or_left, or_right, not-true, cases_Bool, cond-true, cond-false, both_ways, eqb-true, leb-true}
+use Rattle.std.proofs.lemmas.List.Folds.{list_all-append, list_any-append}
 use Rattle.lp_form.specs.Classes.{members_of}
 use Rattle.lp_form.specs.Templates.{steps_of, holes_of}
 use Rattle.lp_form.specs.Templates as template
@@ -10,7 +10,6 @@ use Rattle.lp_form.specs.contracts.part.PartPartialEq.TheImpl as equality
 use Rattle.lp_form.specs.contracts.part.PartEq.TheImpl.Laws.{laws-law}
 use Rattle.lp_form.specs.declared.class.Class.{Class}
 use Rattle.lp_form.specs.declared.part.Part.{Part}
-use Rattle.lp_form.specs.declared.part.Part.TheVariants as part
 use Rattle.lp_form.specs.declared.template.Step.{Step}
 use Rattle.lp_form.specs.declared.template.Step.TheVariants as step
 use Rattle.lp_program.specs.Reads.{are_pairs, may_have}

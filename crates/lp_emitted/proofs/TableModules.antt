@@ -1,5 +1,5 @@
 -- The module of table-driven code.
-use Rattle.std.proofs.Common.{◌≡◌, ℕ, Bool, true, false, List, [], ◌∷◌, ◌++◌, length, All, Option, Some, None, if◌then◌else◌, refl}
+use Rattle.std.proofs.Common.{ℕ, Bool, true, false, List, [], ◌∷◌, ◌++◌, length, All, if◌then◌else◌, refl}
 use Rattle.lp_form.specs.Classes.{members_of}
 use Rattle.lp_form.specs.Templates.{steps_of, holes_of}
 use Rattle.lp_form.specs.declared.class.Class.TheVariants as class
@@ -8,15 +8,13 @@ use Rattle.lp_form.specs.declared.template.Step.{Step}
 use Rattle.lp_form.specs.declared.template.Step.TheVariants as step
 use Rattle.lp_repr.specs.declared.lr1.Lr1State.{Lr1State}
 use Rattle.lp_repr.specs.declared.repr.Grammar.{Grammar}
-use Rattle.lp_repr.specs.declared.repr.NonterminalString.{NonterminalString}
 use Rattle.lp_tree.specs.ProgramTree.{Item}
-use Rattle.lp_build.specs.Functions.{parser_part}
 use Rattle.lp_build.specs.declared.functions.FunctionName.TheVariants as name
-use Rattle.lp_table.specs.BuiltTable.{built_for, built_table, built_table_at, table_items, with_machine, with_reductions, with_tables}
+use Rattle.lp_table.specs.BuiltTable.{built_table, table_items, with_machine, with_reductions, with_tables}
 use Rattle.lp_table.specs.FrameLines.{inner_use, inner_uses, is_interned, module_parts, parse_answer, parse_generics, parse_header, parse_parameters, parser_parts, source_lines, table_parser, token_use_lines, use_lines}
 use Rattle.lp_table.specs.Headers.{clauses_of}
 use Rattle.lp_table.specs.MachineLines.{drive_call}
-use Rattle.lp_table.specs.Starts.{Start, start_for}
+use Rattle.lp_table.specs.Starts.{Start}
 use Rattle.lp_emitted.proofs.Headers.{header_one}
 use Rattle.lp_emitted.proofs.Machines.{acceptance_one, definition_one, drive_one, expected_list_one, implementation_one, simulation_one, symbol_values_one}
 use Rattle.lp_emitted.proofs.Reductions.{mismatch_one, pop_functions_many, reduce_function_one, reduce_functions_many}

@@ -1,5 +1,5 @@
 -- The tables of a module.
-use Rattle.std.proofs.Common.{◌≡◌, ℕ, ◌+◌, ◌==◌, Bool, true, false, List, [], ◌∷◌, ◌++◌, length, map, remove, refl}
+use Rattle.std.proofs.Common.{ℕ, ◌+◌, ◌==◌, List, [], ◌∷◌, length, map, refl}
 use Rattle.lp_form.specs.Classes.{members_of}
 use Rattle.lp_form.specs.Templates.{steps_of, holes_of}
 use Rattle.lp_form.specs.declared.class.Class.TheVariants as class
@@ -14,7 +14,7 @@ use Rattle.lp_parts.specs.Gotos.{arms_of, column_from}
 use Rattle.lp_parts.specs.declared.gotos.GotoArm.{GotoArm}
 use Rattle.lp_table.specs.TableLines.{action_lookup, action_table, arm_row, end_table, expected_lines, goto_function, gotos_from, gotos_lines, terminal_lines, terminal_name, terminal_names}
 use Rattle.std.specs.List.{flat_map}
-use Rattle.lp_emitted.proofs.Rows.{Told, Takes, either, leaf_one, many_map, many_more, many_none, many_one, one_leaf, over_one, text_many, told_leaf}
+use Rattle.lp_emitted.proofs.Rows.{Told, Takes, either, many_map, many_more, many_none, many_one, one_leaf, over_one, text_many, told_leaf}
 
 -- what is asked of the tables of these states
 pub record TablesTold (T : Told) (g : Grammar) (states : List Lr1State) : Type 0 where

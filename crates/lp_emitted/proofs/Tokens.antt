@@ -1,5 +1,5 @@
 -- From tokens to numbers of terminals and to symbols.
-use Rattle.std.proofs.Common.{◌≡◌, ℕ, ◌+◌, List, [], ◌∷◌, ◌++◌, map, Option, Some, None, refl}
+use Rattle.std.proofs.Common.{ℕ, ◌+◌, List, [], ◌∷◌, map, Option, Some, None, refl}
 use Rattle.std.specs.BTreeMap.{get}
 use Rattle.lp_form.specs.Classes.{members_of}
 use Rattle.lp_form.specs.Templates.{steps_of, holes_of}
@@ -17,7 +17,7 @@ use Rattle.lp_parts.specs.Texts.{symbol_text}
 use Rattle.lp_table.specs.Headers.{clauses_of, generics_of}
 use Rattle.lp_table.specs.MachineLines.{phantom_parameter}
 use Rattle.lp_table.specs.Pieces.{variant_text}
-use Rattle.lp_table.specs.TokenLines.{Known, captured_value, group_arm, group_patterns, groups_of, in_group, integer_row, integer_rows, known_terminals, number_of, number_type, symbols_header, token_index, token_numbers, token_reference, token_symbols, token_value}
+use Rattle.lp_table.specs.TokenLines.{Known, captured_value, group_arm, group_patterns, groups_of, in_group, integer_row, integer_rows, known_terminals, number_of, number_type, token_index, token_numbers, token_reference, token_symbols, token_value}
 use Rattle.lp_table.specs.declared.tokens.Group.{Group}
 use Rattle.lp_emitted.proofs.Headers.{header_one}
 use Rattle.lp_emitted.proofs.Rows.{Told, Takes, beside, many_flat, many_more, many_none, many_one, one_leaf, over_one}

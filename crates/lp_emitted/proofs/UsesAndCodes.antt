@@ -1,5 +1,5 @@
 -- Uses and user code that meet their rule are cut at the `;` and the `}` that stand behind them, whatever follows.
-use Rattle.std.proofs.Common.{◌≡◌, ℕ, ◌<◌, List, [], ◌∷◌, ◌++◌, codes, Some, None, refl, sym, ap, ◌∙◌, subst, subst₂, inl, arith, append_assoc, IsUtf8, IsAscii, chars, rules}
+use Rattle.std.proofs.Common.{◌≡◌, ℕ, ◌<◌, List, [], ◌∷◌, ◌++◌, codes, None, refl, sym, ap, ◌∙◌, subst, subst₂, inl, append_assoc, IsUtf8, IsAscii, chars, rules}
 use Rattle.std.proofs.lemmas.Str.{chars-append, chars-IsAscii, IsUtf8-append, IsUtf8-from_ascii}
 use Rattle.lp_tok.specs.Cut.{IsEnder, MayEnd, StopsAt, balance, splits_one}
 use Rattle.lp_tok.specs.CodePieces.{Whole, code_piece, kind_of}
