@@ -1,0 +1,8 @@
+use Rattle.lp_emitted.proofs.Fitting.{emitted_fits, emitted_is_well_formed}
+use Rattle.lp_emitted.proofs.laws.emitted.Goals as goal
+
+pub returns-clause-fits : goal.returns-clause-fits
+returns-clause-fits c = emitted_fits
+
+pub returns-clause-well_formed : goal.returns-clause-well_formed
+returns-clause-well_formed c = emitted_is_well_formed
