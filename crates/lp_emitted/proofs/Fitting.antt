@@ -1,5 +1,5 @@
 -- The uses, user code and tables of a grammar that may be emitted fit.
-use Rattle.std.proofs.Common.{◌≡◌, ℕ, ◌≤◌, min, Bool, true, false, if◌then◌else◌, List, [], ◌∷◌, ◌++◌, length, slice_get, slice_index_or, codes, All, FitsSigned, Some, None, IfSome, subst, arith}
+use Rattle.std.proofs.Common.{◌≡◌, ℕ, ◌≤◌, min, Bool, true, false, if◌then◌else◌, List, [], ◌∷◌, ◌++◌, length, slice_get, slice_index_or, codes, All, FitsSigned, Some, None, IfSome, IsUtf8, ◌<◌, true, sym, ap, ◌∙◌, subst, arith}
 use Rattle.std.specs.BTreeMap.{values}
 use Rattle.std.specs.Int.{w32}
 use Rattle.std.proofs.lemmas.List.Elements.{All-cons, All-nil}
@@ -17,15 +17,17 @@ use Rattle.lp_texts.specs.UserCode.{AnswersAction}
 use Rattle.lp_texts.specs.declared.faults.TextKind.TheVariants.{Use, Code}
 use Rattle.lp_tree.specs.declared.tree.Entry.{Entry}
 use Rattle.lp_tree.specs.declared.tree.Program.{Program}
+use Rattle.lp_program.specs.Reads.{is_prefix}
 use Rattle.lp_program.specs.Trees.{Content, content}
 use Rattle.lp_laws.specs.WellFormed.{IsCodeText, IsUseText, IsWellFormed, StepFits}
 use Rattle.lp_emit.specs.Built.{IsBuilt}
 use Rattle.lp_emit.specs.Causes.{MayBeEmitted, greatest_of}
-use Rattle.lp_emitted.specs.TextsFit.{AreHolesFit, AreStepsFit, AreUtf8, IsUtf8Code, StepsFit}
+use Rattle.lp_emitted.specs.TextsFit.{AreStepsFit, AreUtf8, HolesFit, IsUtf8Code, StepsFit}
 use Rattle.lp_emitted.proofs.Actions.{KindTold}
 use Rattle.lp_emitted.proofs.EntriesFit.{actions_fit, ends_fit, kept_greatest, length-rules_from, tables_fit, within_greatest}
 use Rattle.lp_emitted.proofs.Forests.{EntryTold, built_is_shaped, built_told}
 use Rattle.lp_emitted.proofs.Halves.{shaped_is_well_formed}
+use Rattle.lp_emitted.proofs.Prefixes.{prefix_fits}
 use Rattle.lp_emitted.proofs.Programs.{Given}
 use Rattle.lp_emitted.proofs.Rows.{StepTold, StepsTold, Told}
 use Rattle.lp_emitted.proofs.Tables.{TablesTold}
@@ -80,6 +82,12 @@ entry_fits e t = steps_fit (content e) (steps_of e.part) t
 pub emitted_fits : (g : Grammar) (states : List StartStates) (program : Program) → MayBeEmitted g states → AreUtf8 g → IsBuilt g states program → AreStepsFit program
 emitted_fits g states program m u built = λ k d lt. entry_fits (slice_index_or program.entries.items k d) (built_told g states program (given_fits g states m u) built k d lt)
 
-pub emitted_is_well_formed : (g : Grammar) (states : List StartStates) (program : Program) → MayBeEmitted g states → AreUtf8 g → IsBuilt g states program → AreHolesFit program → IsWellFormed program
-emitted_is_well_formed g states program m u built holes =
-    shaped_is_well_formed program (built_is_shaped g states program built) holes (emitted_fits g states program m u built)
+pub emitted_has_prefix : (g : Grammar) (states : List StartStates) (program : Program) → MayBeEmitted g states → AreUtf8 g → IsBuilt g states program → 0 < length g.prefix → is_prefix program.prefix ≡ true
+emitted_has_prefix g states program m u built some = ap is_prefix built.prefix ∙ prefix_fits g states m u.prefix some
+
+pub emitted_is_well_formed : (g : Grammar) (states : List StartStates) (program : Program) → MayBeEmitted g states → AreUtf8 g → IsBuilt g states program → 0 < length g.prefix →
+    All (HolesFit program.prefix) program.entries.items → IsWellFormed program
+emitted_is_well_formed g states program m u built some holes =
+    shaped_is_well_formed program (built_is_shaped g states program built)
+    (record { prefix_fits = emitted_has_prefix g states program m u built some; prefix_utf8 = subst IsUtf8 (sym built.prefix) u.prefix; parts = holes })
+    (emitted_fits g states program m u built)

@@ -16,4 +16,5 @@ pub mod Halves
 pub mod Cutting
 pub mod UsesAndCodes
 pub mod EntriesFit
+pub mod Prefixes
 pub mod Fitting

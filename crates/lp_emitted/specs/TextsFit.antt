@@ -31,12 +31,13 @@ pub record AreHolesFit (program : Program) : Type 0 where
 abbrev pub AreStepsFit : Program → Type 0
 AreStepsFit program = All StepsFit program.entries.items
 
--- a grammar's uses and codes are UTF-8, as their types say
+-- a grammar's prefix, uses and codes are UTF-8, as their types say
 abbrev pub IsUtf8Code : ActionFnDefnKind → Type 0
 IsUtf8Code (User patterns types code) = IsUtf8 code
 IsUtf8Code (Lookaround place) = Unit {0}
 IsUtf8Code (Inline outer symbols) = Unit {0}
 
 pub record AreUtf8 (g : Grammar) : Type 0 where
+  pub prefix : IsUtf8 g.prefix
   pub uses : All IsUtf8 g.uses
   pub codes : All (λ a. IsUtf8Code a.kind) g.action_fn_defns

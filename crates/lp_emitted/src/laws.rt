@@ -1,6 +1,6 @@
 //! Laws between the building and the printing of programs.
 
-ghost use Rattle.lp_emitted.specs.Laws.{BuiltIsShaped, CodesStop, EmittedFits, EmittedIsWellFormed, ShapedIsWellFormed, UsesStop};
+ghost use Rattle.lp_emitted.specs.Laws.{BuiltIsShaped, CodesStop, EmittedFits, EmittedHasPrefix, EmittedIsWellFormed, ShapedIsWellFormed, UsesStop};
 
 /// The program of a grammar and its states has its parts below one another as the templates say,
 /// whatever the grammar, its texts and its tables are. So it is well formed where its texts may
@@ -18,8 +18,10 @@ pub fn cuts()
 {}
 
 /// Where a grammar and its states may be emitted, the uses, the user code and the tables of the
-/// program that is built of them fit. So it is well formed where its holes hold what they may.
+/// program that is built of them fit, and its prefix is one where it isn't empty. So it is then well
+/// formed where its holes hold what they may.
 pub fn emitted()
     ensures fits { EmittedFits }
+    ensures prefix { EmittedHasPrefix }
     ensures well_formed { EmittedIsWellFormed }
 {}

@@ -1,4 +1,4 @@
-use Rattle.lp_emitted.proofs.Fitting.{emitted_fits, emitted_is_well_formed}
+use Rattle.lp_emitted.proofs.Fitting.{emitted_fits, emitted_has_prefix, emitted_is_well_formed}
 use Rattle.lp_emitted.proofs.laws.emitted.Goals as goal
 
 pub returns-clause-fits : goal.returns-clause-fits
@@ -6,3 +6,6 @@ returns-clause-fits c = emitted_fits
 
 pub returns-clause-well_formed : goal.returns-clause-well_formed
 returns-clause-well_formed c = emitted_is_well_formed
+
+pub returns-clause-prefix : goal.returns-clause-prefix
+returns-clause-prefix c = emitted_has_prefix
