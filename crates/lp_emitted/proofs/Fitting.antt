@@ -22,6 +22,7 @@ use Rattle.lp_program.specs.Trees.{Content, content}
 use Rattle.lp_laws.specs.WellFormed.{IsCodeText, IsUseText, IsWellFormed, StepFits}
 use Rattle.lp_emit.specs.Built.{IsBuilt}
 use Rattle.lp_emit.specs.Causes.{MayBeEmitted, greatest_of}
+use Rattle.lp_emitted.specs.Laws.{EmittedReadsBack}
 use Rattle.lp_emitted.specs.TextsFit.{AreStepsFit, AreUtf8, HolesFit, IsUtf8Code, StepsFit}
 use Rattle.lp_emitted.proofs.Actions.{KindTold}
 use Rattle.lp_emitted.proofs.EntriesFit.{actions_fit, ends_fit, kept_greatest, length-rules_from, tables_fit, within_greatest}
@@ -31,18 +32,19 @@ use Rattle.lp_emitted.proofs.Prefixes.{prefix_fits}
 use Rattle.lp_emitted.proofs.Programs.{Given}
 use Rattle.lp_emitted.proofs.Rows.{StepTold, StepsTold, Told}
 use Rattle.lp_emitted.proofs.Tables.{TablesTold}
-use Rattle.lp_emitted.proofs.UsesAndCodes.{code_stops, super_use_stops, use_stops}
+use Rattle.lp_laws.proofs.Endings.{codes_end, uses_end}
+use Rattle.lp_laws.proofs.Law.{reads_back}
 
 -- what is asked of them
 abbrev fitting : Told
 fitting = record { use_text = IsUseText; code = IsCodeText; table = All (FitsSigned w32) }
 
-inner_fits : (b : Bool) (text : List ℕ) → IsUseText text → IsUseText (if b then codes "super::" ++ text else text)
-inner_fits true text u = super_use_stops text u
-inner_fits false text u = u
+inner_fits : (b : Bool) (text : List ℕ) → IsUseText text × IsUseText (codes "super::" ++ text) → IsUseText (if b then codes "super::" ++ text else text)
+inner_fits true text u = u.1
+inner_fits false text u = u.0
 
 kind_fits : (kind : ActionFnDefnKind) → AnswersAction kind None → IsUtf8Code kind → KindTold fitting kind
-kind_fits (User patterns types code) meets utf8 = code_stops code utf8 meets
+kind_fits (User patterns types code) meets utf8 = codes_end code utf8 meets
 kind_fits (Lookaround place) meets utf8 = tt
 kind_fits (Inline outer symbols) meets utf8 = tt
 
@@ -59,8 +61,8 @@ tables_told g states m start list e =
 
 given_fits : (g : Grammar) (states : List StartStates) → MayBeEmitted g states → AreUtf8 g → Given fitting g states
 given_fits g states m u = record {
-  uses = λ k d lt. use_stops _ (u.uses k d lt) (m.texts Use k d lt);
-  inner = λ k d lt. inner_fits _ _ (use_stops _ (u.uses k d lt) (m.texts Use k d lt));
+  uses = λ k d lt. (uses_end _ (u.uses k d lt) (m.texts Use k d lt)).0;
+  inner = λ k d lt. inner_fits _ _ (uses_end _ (u.uses k d lt) (m.texts Use k d lt));
   codes = λ k d lt. kind_fits _ (m.texts Code k d lt) (u.codes k d lt);
   tables = tables_told g states m;
 }
@@ -91,3 +93,7 @@ emitted_is_well_formed g states program m u built some holes =
     shaped_is_well_formed program (built_is_shaped g states program built)
     (record { prefix_fits = emitted_has_prefix g states program m u built some; prefix_utf8 = subst IsUtf8 (sym built.prefix) u.prefix; parts = holes })
     (emitted_fits g states program m u built)
+
+-- so its text reads as it
+pub emitted_reads_back : EmittedReadsBack
+emitted_reads_back g states program options read m u b p h i = reads_back options program read (emitted_is_well_formed g states program m u b p h) i

@@ -13,8 +13,6 @@ pub mod AscentModules
 pub mod Programs
 pub mod Forests
 pub mod Halves
-pub mod Cutting
-pub mod UsesAndCodes
 pub mod EntriesFit
 pub mod Prefixes
 pub mod Fitting

@@ -1,14 +1,15 @@
 -- What the laws say: what is built is well formed where its texts fit, and which of them do.
-use Rattle.std.specs.Prelude.{◌≡◌, ℕ, ◌<◌, true, List, length, All, None}
-use Rattle.std.specs.Str.{IsUtf8}
+use Rattle.std.specs.Prelude.{◌≡◌, ◌<◌, true, List, length, All}
 use Rattle.lp_repr.specs.declared.lr1.StartStates.{StartStates}
 use Rattle.lp_repr.specs.declared.repr.Grammar.{Grammar}
-use Rattle.lp_texts.specs.UserCode.{AnswersCode, AnswersUse}
 use Rattle.lp_tree.specs.declared.tree.Program.{Program}
-use Rattle.lp_program.specs.Reads.{is_prefix}
+use Rattle.lp_program.specs.Reads.{ReadsAs, is_prefix}
+use Rattle.lp_write.specs.declared.rust.Options.{Options}
 use Rattle.lp_emit.specs.Built.{IsBuilt}
 use Rattle.lp_emit.specs.Causes.{MayBeEmitted}
-use Rattle.lp_laws.specs.WellFormed.{IsCodeText, IsUseText, IsWellFormed}
+use Rattle.lp_emit.specs.Texts.{text_of}
+use Rattle.lp_laws.specs.AsRead.{IsRead}
+use Rattle.lp_laws.specs.WellFormed.{IsWellFormed}
 use Rattle.lp_emitted.specs.Shapes.{IsShaped}
 use Rattle.lp_emitted.specs.TextsFit.{AreHolesFit, AreStepsFit, AreUtf8, HolesFit}
 
@@ -33,10 +34,7 @@ abbrev pub EmittedIsWellFormed : Type 0
 EmittedIsWellFormed = (g : Grammar) (states : List StartStates) (program : Program) → MayBeEmitted g states → AreUtf8 g → IsBuilt g states program → 0 < length g.prefix →
     All (HolesFit program.prefix) program.entries.items → IsWellFormed program
 
--- a use that meets the rule of its kind stops at the `;` behind it, whatever stands on the lines behind
-abbrev pub UsesStop : Type 0
-UsesStop = (text : List ℕ) → IsUtf8 text → AnswersUse text None → IsUseText text
-
--- and user code at the `}` on the next line
-abbrev pub CodesStop : Type 0
-CodesStop = (text : List ℕ) → IsUtf8 text → AnswersCode text None → IsCodeText text
+-- and its text reads as it, whatever the options
+abbrev pub EmittedReadsBack : Type 0
+EmittedReadsBack = (g : Grammar) (states : List StartStates) (program : Program) (options : Options) (read : Program) → MayBeEmitted g states → AreUtf8 g → IsBuilt g states program →
+    0 < length g.prefix → All (HolesFit program.prefix) program.entries.items → IsRead options.whitespace program read → ReadsAs (text_of options program) read
