@@ -9,7 +9,7 @@
 //! - `type N M`: the type of so many states and productions;
 //! - `successors N`: the states that follow state N.
 
-ghost use Rattle.std.specs.Prelude.{IsSome, IsTrue};
+ghost use Rattle.std.specs.Prelude.{◌≡◌};
 ghost use Rattle.lp_codegen.specs.Printing.{start_number};
 
 use crate::cases::number;
@@ -54,34 +54,33 @@ pub fn print_module(
         None if call == "table" => {
             parse_table::compile(alloc, grammar, start.0, start.1, states, "super", out)
         }
-        None if is_start(grammar, start.0, start.1) => {
-            ascent::compile(alloc, grammar, start.0, start.1, states, "super", out)
-        }
-        None => Ok(()),
+        None => match start_number(grammar, start.0, start.1) {
+            Some(_) => ascent::compile(alloc, grammar, start.0, start.1, states, "super", out),
+            None => Ok(()),
+        },
     }
 }
 
-/// Whether a public name and a nonterminal are a start's.
-fn is_start(
+/// The number of the start of a public name and a nonterminal.
+fn start_number(
     grammar: &Grammar,
     public_name: &NonterminalString,
     nonterminal: &NonterminalString,
-) -> bool
-    ensures { IsTrue result → IsSome (start_number grammar.now public_name.now nonterminal.now) }
+) -> Option<usize>
+    ensures { result ≡ start_number grammar.now public_name.now nonterminal.now }
 {
-    let number = grammar.start_nonterminals.iter().position(|(name, start)| name == public_name
-        && start == nonterminal);
-    number.is_some()
+    grammar.start_nonterminals.iter().position(|(name, start)| name == public_name
+        && start == nonterminal)
 }
 
 /// Prints a part of the module of a start.
-pub fn print_part(
+pub fn print_part<'x>(
     alloc: Global,
     call: &str,
-    words: &str,
-    example: &Example,
-    start: Start<'_>,
-    out: &mut RustWrite<MemorySink>,
+    words: &'x str,
+    example: &'x Example,
+    start: Start<'x>,
+    out: &'x mut RustWrite<MemorySink>,
 ) -> Result<(), WriteError> {
     match call {
         "machine" => print_machine(alloc, &example.grammar, out),
@@ -93,13 +92,13 @@ pub fn print_part(
 }
 
 /// What a code generator prints.
-fn generate(
+fn generate<'x>(
     alloc: Global,
     call: &str,
-    words: &str,
-    example: &Example,
-    start: Start<'_>,
-    out: &mut RustWrite<MemorySink>,
+    words: &'x str,
+    example: &'x Example,
+    start: Start<'x>,
+    out: &'x mut RustWrite<MemorySink>,
 ) -> Result<(), WriteError> {
     let module = value(words, "module=").unwrap_or("super");
     let repeatable = has(words, "repeatable");
