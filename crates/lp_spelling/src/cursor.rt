@@ -93,8 +93,8 @@ fn is_ended(text: &str) -> bool
     text.is_empty() || text.as_bytes().ends_with(b"\n")
 }
 
-/// A line that counts for nothing: empty, or a comment.
-fn is_skipped(line: &str) -> bool
+/// Whether a line, without the blanks in front, counts for nothing: it is empty, or a comment.
+pub fn is_skipped(line: &str) -> bool
     ensures { result ≡ is_skipped line.now }
 {
     line.is_empty() || line.as_bytes().starts_with(b"//")

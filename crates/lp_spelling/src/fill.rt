@@ -410,13 +410,8 @@ fn line_part(kind: Kind, text: &str) -> Option<&str>
     }
 }
 
-/// Whether a text may stand in a hole.
-pub(crate) fn may_fill(
-    alloc: Global,
-    prefix: &str,
-    kind: Kind,
-    text: &str,
-) -> Result<bool, AllocError>
+/// Whether a text may stand in a hole of a kind, in a program of this prefix.
+pub fn may_fill(alloc: Global, prefix: &str, kind: Kind, text: &str) -> Result<bool, AllocError>
     ensures { IfOk result (λ b. IsTrue b ↔ fillings.Fits prefix.now kind text.now) }
 {
     if !has_shape(prefix.as_bytes(), kind, text.as_bytes()) {

@@ -8,3 +8,5 @@ mod fill;
 pub mod line;
 pub mod rows;
 pub mod spell;
+
+pub use fill::may_fill;
