@@ -1,0 +1,17 @@
+-- The laws of what is found.
+use Rattle.std.proofs.Common.{◌≡◌, ℕ, true, List, length, take, refl, sym, ap, ◌∙◌, arith, subst}
+use Rattle.lp_form.specs.Templates.{steps_of, holes_of}
+use Rattle.lp_form.specs.declared.part.Part.{Part}
+use Rattle.lp_found.specs.Found.{are_words, AreFilled, LinesFound, HolesFound, known_behind, SameLines, EqualHoles}
+use Rattle.lp_found.proofs.Asking.{templates_told, lines_tell_all, all_met}
+use Rattle.lp_found.proofs.Lines.{steps_found, steps_same}
+
+pub holes_found : HolesFound
+holes_found prefix p holes w h =
+    steps_found prefix (holes_of p) holes 0 (steps_of p) w h.count h.fills (omega arith) (templates_told p) (all_met prefix p holes h.parted)
+
+pub equal_holes : EqualHoles
+equal_holes prefix p holes others w h k s =
+    let same : take (known_behind (steps_of p) 0) holes ≡ take (known_behind (steps_of p) 0) others
+    = steps_same prefix (holes_of p) holes others 0 (steps_of p) refl (holes_found prefix p holes w h) (holes_found prefix p others w k) s in
+    subst (λ n. take n holes ≡ take n others) (lines_tell_all p) same

@@ -1,0 +1,3 @@
+pub mod LineTests
+pub mod Parted
+pub mod Found
