@@ -28,16 +28,16 @@ hole_found : (prefix : List ℕ) (kinds : List Kind) (holes : List (List ℕ)) (
 unfolding hole_len
 hole_found prefix kinds holes n parts w f lt t m = elim (cases_Bool (is_alone n parts)) [
   | inl y ↦ alone_found prefix kinds holes n parts y
-  | inr no ↦
-      let told : is_told_by kinds (kind_of kinds n) parts ≡ true = sym (ap (λ b. b || is_told_by kinds (kind_of kinds n) parts) no) ∙ t in
-      cond-false (is_alone n parts) _ _ no ∙ kind_tells prefix kinds holes (kind_of kinds n) n parts w f (f n lt).1 told (m no)
+  | inr others ↦
+      let told : is_told_by kinds (kind_of kinds n) parts ≡ true = sym (ap (λ b. b || is_told_by kinds (kind_of kinds n) parts) others) ∙ t in
+      cond-false (is_alone n parts) _ _ others ∙ kind_tells prefix kinds holes (kind_of kinds n) n parts w f (f n lt).1 told (m others)
 ]
 
 -- what a slot asks is asked of the next hole where it isn't alone
 asked : (prefix : List ℕ) (kinds : List Kind) (holes : List (List ℕ)) (n k : ℕ) (parts : List Piece) → AreMet prefix holes (slot_asks kinds n (Hole k) parts) → (k == n) ≡ true → is_alone n parts ≡ false →
     AreMet prefix holes (kind_asks (kind_of kinds n) n parts)
-asked prefix kinds holes n k parts m e no =
-    let both : ((k == n) && not (is_alone n parts)) ≡ true = ap (λ b. b && not (is_alone n parts)) e ∙ ap not no in
+asked prefix kinds holes n k parts m e others =
+    let both : ((k == n) && not (is_alone n parts)) ≡ true = ap (λ b. b && not (is_alone n parts)) e ∙ ap not others in
     subst (λ a. AreMet prefix holes a) (cond-true ((k == n) && not (is_alone n parts)) (kind_asks (kind_of kinds n) n parts) [] both) m
 
 slot_found : (prefix : List ℕ) (kinds : List Kind) (holes : List (List ℕ)) (n : ℕ) (s : Slot) (parts : List Piece) → are_words prefix ≡ true → length kinds ≤ length holes → AllFill prefix kinds holes →

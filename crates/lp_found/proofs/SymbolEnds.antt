@@ -48,10 +48,9 @@ unfolding first_at
 symbol_step prefix x y r w b ih =
     let a : (x ++ (44 ∷ 32 ∷ y)) ++ r ≡ x ++ (44 ∷ 32 ∷ (y ++ r)) = append_assoc x (44 ∷ 32 ∷ y) r in
     let s : first_at (ends_symbols prefix) (x ++ (44 ∷ 32 ∷ (y ++ r))) ≡ length x + first_at (ends_symbols prefix) (44 ∷ 32 ∷ (y ++ r)) = skip_words prefix x (44 ∷ 32 ∷ (y ++ r)) w in
-    let goes : ends_symbols prefix (44 ∷ 32 ∷ (y ++ r)) ≡ false = and_right _ _ (ap not (begins_more prefix y r b)) in
-    let blank : ends_symbols prefix (32 ∷ (y ++ r)) ≡ false = refl in
+    let goes : ends_symbols prefix (44 ∷ 32 ∷ (y ++ r)) ≡ false = ap not (begins_more prefix y r b) in
     let one : first_at (ends_symbols prefix) (44 ∷ 32 ∷ (y ++ r)) ≡ suc (first_at (ends_symbols prefix) (32 ∷ (y ++ r))) = cond-false (ends_symbols prefix (44 ∷ 32 ∷ (y ++ r))) _ _ goes in
-    let two : first_at (ends_symbols prefix) (32 ∷ (y ++ r)) ≡ suc (first_at (ends_symbols prefix) (y ++ r)) = cond-false (ends_symbols prefix (32 ∷ (y ++ r))) _ _ blank in
+    let two : first_at (ends_symbols prefix) (32 ∷ (y ++ r)) ≡ suc (first_at (ends_symbols prefix) (y ++ r)) = refl in
     let size : length (x ++ (44 ∷ 32 ∷ y)) ≡ length x + length (44 ∷ 32 ∷ y) = length-append x (44 ∷ 32 ∷ y) in
     ap (first_at (ends_symbols prefix)) a ∙ omega (arith, s, one, two, size)
 
@@ -87,7 +86,7 @@ begins_as_none (a ∷ p) (b ∷ h) z w s n = elim (cases_Bool (eqb a b)) [
   | inl y ↦
       let rest : starts_with eqb h p ≡ false = sym (ap (λ x. x && starts_with eqb h p) y) ∙ n in
       and_right (eqb a b) _ (begins_as_none p h z (and_parts (is_word a) (list_all is_word p) w).1 s rest)
-  | inr no ↦ and_left (eqb a b) _ no
+  | inr z ↦ and_left (eqb a b) _ z
 ]
 
 abbrev SymbolsFound : List ℕ → List (List ℕ) → List Piece → List ℕ → Type 0
