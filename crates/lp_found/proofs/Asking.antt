@@ -1,5 +1,5 @@
 -- What the lines of each part ask of their holes, and that each template passes the test.
-use Rattle.std.proofs.Common.{◌≡◌, ℕ, Bool, true, false, not, cond, ◌&&◌, if◌then◌else◌, ◌==◌, List, [], ◌∷◌, ◌++◌, length, get_or, refl}
+use Rattle.std.proofs.Common.{◌≡◌, ℕ, true, not, ◌&&◌, if◌then◌else◌, ◌==◌, List, [], ◌∷◌, ◌++◌, length, get_or, refl}
 use Rattle.lp_form.specs.Templates.{Piece, steps_of, holes_of}
 use Rattle.lp_form.specs.Templates as template
 use Rattle.lp_form.specs.declared.part.Part.{Part}

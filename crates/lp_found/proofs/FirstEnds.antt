@@ -1,5 +1,5 @@
 -- Holes that end at the first place where the parts go on.
-use Rattle.std.proofs.Common.{◌≡◌, ℕ, ◌+◌, ◌-◌, ◌==◌, true, false, not, ◌||◌, List, [], ◌∷◌, ◌++◌, length, get_or, drop, codes, refl, sym, ap, subst, arith, eqb, ⊎_elim}
+use Rattle.std.proofs.Common.{◌≡◌, ℕ, ◌-◌, ◌==◌, true, false, not, ◌||◌, List, [], ◌∷◌, ◌++◌, length, get_or, drop, codes, refl, sym, ap, subst, arith, eqb, ⊎_elim}
 use Rattle.std.specs.List.{starts_with, ends_with}
 use Rattle.std.proofs.lemmas.Bool.{and_parts, or_cases, or_parts, not-true, both_ways, false_from_ne_true}
 use Rattle.lp_form.specs.Templates.{Piece}
@@ -7,14 +7,13 @@ use Rattle.lp_form.specs.declared.template.Kind.TheVariants as kind
 use Rattle.lp_form.specs.declared.template.Slot.{Slot}
 use Rattle.lp_form.specs.declared.template.Slot.TheVariants.{Nothing, Prefix, Hole}
 use Rattle.lp_spelling.specs.Lines.{line_of}
-use Rattle.lp_spelling.specs.HoleEnds.{first_at, is_somewhere, place, is_word, goes_on}
+use Rattle.lp_spelling.specs.HoleEnds.{first_at, is_somewhere, is_word, goes_on}
 use Rattle.lp_spelling.specs.Fillings.{is_joined, are_parameters, holds, without_end}
 use Rattle.lp_found.specs.LineTests.{is_without, and_sign, next_has, is_prefix_slot, is_prefix_next, is_mark, is_marked}
 use Rattle.lp_found.specs.Found.{are_words}
 use Rattle.lp_found.proofs.Places.{first_behind, not_in, not_across, marked_across, ended_across}
 use Rattle.lp_found.proofs.Holding.{words_without, without-append, held_not, comma_last, empty_is}
 use Rattle.lp_found.proofs.Asking.{AreMet, asks_text, kind_asks}
-
 use Rattle.lp_found.proofs.GoingOn.{goes_here, line_begins, goes_front, goes_prefix, goes_whole}
 
 -- the first place at which the parts go on
@@ -48,9 +47,9 @@ prefix_at prefix holes x t Prefix ps e s w last none =
     = λ y g. subst (λ (z : List ℕ). starts_with eqb (drop (length z) y) prefix ≡ true) e (goes_prefix prefix t ps y g) in
     let begins : starts_with eqb line prefix ≡ true = at line (goes_here prefix holes parts) in
     first_behind (goes_on prefix parts) x line (goes_here prefix holes parts) (λ i lt. false_from_ne_true _ (λ g.
-        both_ways (starts_with eqb (drop i (x ++ line)) prefix)
-        (not_across prefix x line (held_nowhere prefix x none) (ended_across is_word prefix x line w (ap is_word last)) i lt)
-        (at (drop i (x ++ line)) g)))
+    both_ways (starts_with eqb (drop i (x ++ line)) prefix)
+    (not_across prefix x line (held_nowhere prefix x none) (ended_across is_word prefix x line w (ap is_word last)) i lt)
+    (at (drop i (x ++ line)) g)))
 
 prefix_first : (prefix : List ℕ) (holes : List (List ℕ)) (x : List ℕ) (parts : List Piece) → is_prefix_next parts ≡ true → are_words prefix ≡ true → get_or x (length x - 1) 0 ≡ 32 →
     holds prefix x ≡ false → FirstFound prefix holes parts x
@@ -91,9 +90,9 @@ mark_first prefix holes n (c ∷ t) Prefix (q ∷ ps) w h m =
     let line : List ℕ = line_of prefix holes parts in
     let begins : starts_with eqb line (c ∷ s) ≡ true = goes_whole prefix (c ∷ t) q ps line (goes_here prefix holes parts) in
     first_behind (goes_on prefix parts) x line (goes_here prefix holes parts) (λ i lt. false_from_ne_true _ (λ g.
-        both_ways (starts_with eqb (drop i (x ++ line)) (c ∷ s))
-        (not_across (c ∷ s) x line (held_nowhere (c ∷ s) x m.0) (marked_across c s x line once begins) i lt)
-        (goes_whole prefix (c ∷ t) q ps (drop i (x ++ line)) g)))
+    both_ways (starts_with eqb (drop i (x ++ line)) (c ∷ s))
+    (not_across (c ∷ s) x line (held_nowhere (c ∷ s) x m.0) (marked_across c s x line once begins) i lt)
+    (goes_whole prefix (c ∷ t) q ps (drop i (x ++ line)) g)))
 
 pub text_first : (prefix : List ℕ) (holes : List (List ℕ)) (n : ℕ) (parts : List Piece) → are_words prefix ≡ true → is_marked parts ≡ true → AreMet prefix holes (kind_asks kind.Text n parts) →
     FirstFound prefix holes parts (get_or holes n [])

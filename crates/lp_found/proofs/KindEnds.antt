@@ -1,5 +1,5 @@
 -- A hole of each kind ends where the parts behind it begin.
-use Rattle.std.proofs.Common.{◌≡◌, ℕ, ◌+◌, ◌-◌, true, false, List, [], ◌++◌, length, get_or, codes, refl}
+use Rattle.std.proofs.Common.{◌≡◌, ℕ, true, false, List, [], ◌++◌, length, get_or, codes, refl}
 use Rattle.std.proofs.lemmas.Bool.{and_parts, both_ways}
 use Rattle.lp_form.specs.Templates.{Piece}
 use Rattle.lp_form.specs.declared.template.Kind.{Kind}
@@ -12,7 +12,6 @@ use Rattle.lp_found.specs.LineTests.{angle, is_told_by}
 use Rattle.lp_found.specs.Found.{are_words}
 use Rattle.lp_found.proofs.Holding.{name_words, number_digits, escaped_words, number_free, range_free, are_joined_free}
 use Rattle.lp_found.proofs.Asking.{AreMet, kind_asks}
-
 use Rattle.lp_found.proofs.GoingOn.{AllFill}
 use Rattle.lp_found.proofs.FirstEnds.{byte_first, parameters_first, text_first}
 use Rattle.lp_found.proofs.LastEnds.{angle_last}

@@ -1,5 +1,5 @@
 -- Holes that end at the last place where the parts go on.
-use Rattle.std.proofs.Common.{◌≡◌, ℕ, ◌+◌, ◌-◌, true, false, not, List, [], ◌∷◌, ◌++◌, length, get_or, drop, refl, ap, ◌∙◌, arith, eqb, ltb, length-append}
+use Rattle.std.proofs.Common.{◌≡◌, ℕ, ◌+◌, true, false, not, List, [], ◌∷◌, ◌++◌, length, get_or, drop, refl, ap, ◌∙◌, arith, eqb, ltb, length-append}
 use Rattle.std.specs.List.{starts_with}
 use Rattle.std.proofs.lemmas.Bool.{and_parts, ltb-true, not-true, both_ways}
 use Rattle.lp_form.specs.Templates.{Piece}
@@ -13,7 +13,6 @@ use Rattle.lp_found.specs.LineTests.{is_without, angle, is_free_slot, are_free, 
 use Rattle.lp_found.specs.Found.{are_words}
 use Rattle.lp_found.proofs.Places.{first_of, last_apart, not_later}
 use Rattle.lp_found.proofs.Holding.{words_without, without-append, kind_free}
-
 use Rattle.lp_found.proofs.GoingOn.{AllFill, goes_here, goes_front, line_split}
 
 -- nothing behind the next literal text has its `>`

@@ -1,8 +1,7 @@
 -- The laws of what is found.
-use Rattle.std.proofs.Common.{◌≡◌, ℕ, true, List, length, take, refl, sym, ap, ◌∙◌, arith, subst}
+use Rattle.std.proofs.Common.{◌≡◌, take, refl, arith, subst}
 use Rattle.lp_form.specs.Templates.{steps_of, holes_of}
-use Rattle.lp_form.specs.declared.part.Part.{Part}
-use Rattle.lp_found.specs.Found.{are_words, AreFilled, LinesFound, HolesFound, known_behind, SameLines, EqualHoles}
+use Rattle.lp_found.specs.Found.{HolesFound, known_behind, EqualHoles}
 use Rattle.lp_found.proofs.Asking.{templates_told, lines_tell_all, all_met}
 use Rattle.lp_found.proofs.Lines.{steps_found, steps_same}
 

@@ -1,7 +1,7 @@
 -- Places of a text at which others stand.
-use Rattle.std.proofs.Common.{◌≡◌, ◌≢◌, ℕ, ◌+◌, ◌-◌, ◌<◌, ◌≤◌, ◌==◌, zero, suc, Bool, true, false, not, cond, ◌&&◌, inl, inr, ⊎_elim, List, [], ◌∷◌, ◌++◌, length, get_or, take, drop, refl, sym, ◌∙◌, ap, arith, eq-eqb, eqb, ltb, ne_eqb, length-drop}
-use Rattle.std.specs.List.{list_all, prefix_len, starts_with}
-use Rattle.std.proofs.lemmas.Bool.{false≢true, and_parts, and_from, and_left, cond-true, cond-false, cases_Bool, cases_eq, cases_lt, not-true, not_from_false, eqb-true, le-ltb, ltb-true, ltb-false, lt-ltb, false_from_ne_true, both_ways}
+use Rattle.std.proofs.Common.{◌≡◌, ◌≢◌, ℕ, ◌+◌, ◌-◌, ◌<◌, ◌≤◌, ◌==◌, zero, suc, Bool, true, false, not, ◌&&◌, inl, inr, List, [], ◌∷◌, ◌++◌, length, get_or, drop, refl, sym, ◌∙◌, ap, arith, eq-eqb, eqb, length-drop}
+use Rattle.std.specs.List.{list_all, starts_with}
+use Rattle.std.proofs.lemmas.Bool.{false≢true, and_parts, and_from, cond-true, cond-false, cases_Bool, cases_lt, not-true, eqb-true, le-ltb, ltb-true, ltb-false, lt-ltb, false_from_ne_true, both_ways}
 use Rattle.std.proofs.lemmas.List.{get_or-drop, get_or_append_left, get_or-append_right, get_or_past, drop-append-le}
 use Rattle.lp_spelling.specs.HoleEnds.{first_at, is_somewhere, last_at}
 use Rattle.lp_found.specs.LineTests.{is_without}

@@ -13,7 +13,6 @@ use Rattle.lp_spelling.proofs.Reading.{starts_ok}
 use Rattle.lp_found.specs.LineTests.{letter_p, begins_apart, next_apart}
 use Rattle.lp_found.proofs.Places.{begins_more}
 use Rattle.lp_found.proofs.Holding.{blank_last, empty_is}
-
 use Rattle.lp_found.proofs.GoingOn.{line_split}
 
 -- a visibility ends by its bracket
