@@ -57,7 +57,7 @@ split_at s t h =
     let there : drop (place s t) t ≡ s ++ drop (length s) (drop (place s t) t) = starts_ok s (drop (place s t) t) (first_passes test t (ltb-true (place s t) (length t) h)) in
     sym (take-append-drop (place s t) t) ∙ ap (λ x. take (place s t) t ++ x) (there ∙ ap (λ x. s ++ x) (drop-drop (length s) (place s t) t))
 
-holds_first : (b : ℕ) (s t : List ℕ) → holds (b ∷ s) t ≡ true → ltb (place (b ∷ s) t) (length t) ≡ true
+pub holds_first : (b : ℕ) (s t : List ℕ) → holds (b ∷ s) t ≡ true → ltb (place (b ∷ s) t) (length t) ≡ true
 unfolding holds
 holds_first b s t h = ⊎_elim (λ e. absurd (omega (arith, eqb-true (length (b ∷ s)) 0 e))) (λ l. l) (or_cases (length (b ∷ s) == 0) (ltb (place (b ∷ s) t) (length t)) h)
 

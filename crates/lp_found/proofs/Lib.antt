@@ -9,5 +9,6 @@ pub mod SymbolEnds
 pub mod VisibilityEnds
 pub mod KindEnds
 pub mod Lines
+pub mod Needed
 pub mod Law
 pub mod Examples

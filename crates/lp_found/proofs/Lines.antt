@@ -40,7 +40,7 @@ asked prefix kinds holes n k parts m e others =
     let both : ((k == n) && not (is_alone n parts)) ≡ true = ap (λ b. b && not (is_alone n parts)) e ∙ ap not others in
     subst (λ a. AreMet prefix holes a) (cond-true ((k == n) && not (is_alone n parts)) (kind_asks (kind_of kinds n) n parts) [] both) m
 
-slot_found : (prefix : List ℕ) (kinds : List Kind) (holes : List (List ℕ)) (n : ℕ) (s : Slot) (parts : List Piece) → are_words prefix ≡ true → length kinds ≤ length holes → AllFill prefix kinds holes →
+pub slot_found : (prefix : List ℕ) (kinds : List Kind) (holes : List (List ℕ)) (n : ℕ) (s : Slot) (parts : List Piece) → are_words prefix ≡ true → length kinds ≤ length holes → AllFill prefix kinds holes →
     is_told kinds n s parts ≡ true → AreMet prefix holes (slot_asks kinds n s parts) → SlotFound prefix kinds holes n s parts
 slot_found prefix kinds holes n Nothing parts w le f t m = tt
 slot_found prefix kinds holes n Prefix parts w le f t m = tt

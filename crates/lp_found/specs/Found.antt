@@ -1,28 +1,24 @@
--- What the laws say: a printed line reads as exactly its holes.
-use Rattle.std.specs.Prelude.{◌≡◌, ℕ, ◌<◌, ◌≤◌, Bool, true, List, [], ◌∷◌, ◌++◌, length, get_or, take, Some, codes}
+-- Lines that read as exactly the holes that they were printed with.
+use Rattle.std.specs.Prelude.{◌≡◌, ℕ, ◌<◌, ◌≤◌, Bool, List, [], ◌∷◌, length, get_or, take, Some}
 use Rattle.std.specs.List.{list_all}
-use Rattle.std.specs.Str.{IsUtf8}
-use Rattle.lp_form.specs.Templates.{Piece, steps_of, holes_of}
+use Rattle.lp_form.specs.Templates.{Piece, holes_of}
 use Rattle.lp_form.specs.Templates as template
 use Rattle.lp_form.specs.declared.part.Part.{Part}
 use Rattle.lp_form.specs.declared.template.Kind.{Kind}
-use Rattle.lp_texts.specs.Identifiers.{is_identifier}
 use Rattle.lp_spelling.specs.Lines.{line_of}
 use Rattle.lp_spelling.specs.HoleEnds.{is_word}
 use Rattle.lp_spelling.specs.Fillings.{Fills}
 use Rattle.lp_spelling.specs.LineReading.{kind_of, line_at}
 use Rattle.lp_spelling.specs.LineHoles.{known_in}
-use Rattle.lp_found.specs.Parted.{IsParted}
 
 -- bytes of words alone
 abbrev pub are_words : List ℕ → Bool
 are_words text = list_all is_word text
 
--- the holes of a part, those of its lines in front: each holds what it may, and those that are asked to are parted from what follows
+-- the holes of a part, those of its lines in front: each holds what it may
 pub record AreFilled (prefix : List ℕ) (p : Part) (holes : List (List ℕ)) : Type 0 where
   pub count : length (holes_of p) ≤ length holes
   pub fills : (k : ℕ) → k < length (holes_of p) → Fills prefix (kind_of (holes_of p) k) (get_or holes k [])
-  pub parted : IsParted prefix p holes
 
 -- where n holes are known before a line, it reads as those that are known behind it
 abbrev pub LineFound : List ℕ → List Kind → List (List ℕ) → ℕ → List Piece → Type 0
@@ -38,24 +34,7 @@ abbrev pub known_behind : List template.Line → ℕ → ℕ
 known_behind [] n = n
 known_behind (s ∷ steps) n = known_behind steps (known_in s.1 n)
 
--- the holes of every template are found again, under a prefix of word bytes
-abbrev pub HolesFound : Type 0
-HolesFound = (prefix : List ℕ) (p : Part) (holes : List (List ℕ)) → are_words prefix ≡ true → AreFilled prefix p holes → LinesFound prefix (holes_of p) holes 0 (steps_of p)
-
--- and its lines tell them all
-abbrev pub LinesTellAll : Type 0
-LinesTellAll = (p : Part) → known_behind (steps_of p) 0 ≡ length (holes_of p)
-
 -- the lines of steps are the same under two lists of holes
 unfoldable pub SameLines : List ℕ → List (List ℕ) → List (List ℕ) → List template.Line → Type 0
 SameLines prefix holes others [] = Unit {0}
 SameLines prefix holes others (s ∷ steps) = (line_of prefix holes s.1 ≡ line_of prefix others s.1) × SameLines prefix holes others steps
-
--- equal lines have equal holes
-abbrev pub EqualHoles : Type 0
-EqualHoles = (prefix : List ℕ) (p : Part) (holes others : List (List ℕ)) → are_words prefix ≡ true → AreFilled prefix p holes → AreFilled prefix p others → SameLines prefix holes others (steps_of p) →
-    take (length (holes_of p)) holes ≡ take (length (holes_of p)) others
-
--- a prefix that makes an identifier of `lalrpop_util` has bytes of words alone
-abbrev pub PrefixesAreWords : Type 0
-PrefixesAreWords = (prefix : List ℕ) → IsUtf8 prefix → is_identifier (prefix ++ codes "lalrpop_util") ≡ true → are_words prefix ≡ true

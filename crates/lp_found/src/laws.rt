@@ -1,9 +1,9 @@
 //! Laws between the spelling of lines and their reading.
 
-ghost use Rattle.lp_found.specs.Found.{HolesFound, LinesTellAll, EqualHoles, PrefixesAreWords};
+ghost use Rattle.lp_found.specs.Laws.{HolesFound, LinesTellAll, EqualHoles, PrefixesAreWords};
 
 /// Every line of every template reads as exactly the holes that it was spelled with, where they hold
-/// what they may. So equal lines have equal holes.
+/// what they may and are parted, and not where they aren't. So equal lines have equal holes.
 pub fn holes()
     ensures found { HolesFound }
     ensures told { LinesTellAll }
