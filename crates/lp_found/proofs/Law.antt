@@ -1,5 +1,5 @@
 -- The laws of what is found.
-use Rattle.std.proofs.Common.{◌≡◌, ℕ, List, take, refl, arith, subst}
+use Rattle.std.proofs.Common.{◌≡◌, take, refl, arith, subst}
 use Rattle.lp_form.specs.Templates.{steps_of, holes_of}
 use Rattle.lp_found.specs.Found.{known_behind}
 use Rattle.lp_found.specs.Laws.{HolesFound, EqualHoles}

@@ -1,9 +1,9 @@
 -- What is asked is needed: holes that are found again meet it.
-use Rattle.std.proofs.Common.{◌≡◌, ℕ, ◌+◌, ◌-◌, ◌==◌, ◌<◌, ◌≤◌, zero, suc, Bool, true, false, not, cond, ◌&&◌, ◌||◌, List, [], ◌∷◌, ◌++◌, length, get_or, take, drop, codes, Option, Some, None, refl, sym, ap, ◌∙◌, subst, arith, eqb, ltb, inl, inr, ◌⊎◌, ⊎_elim, append_assoc, length-append}
-use Rattle.std.specs.List.{list_all, starts_with}
+use Rattle.std.proofs.Common.{◌≡◌, ℕ, ◌+◌, ◌==◌, ◌<◌, ◌≤◌, zero, suc, Bool, true, false, not, ◌&&◌, ◌||◌, List, [], ◌∷◌, ◌++◌, length, get_or, take, drop, codes, Option, Some, refl, sym, ap, ◌∙◌, subst, arith, eqb, ltb, inl, inr, ⊎_elim, append_assoc, length-append}
+use Rattle.std.specs.List.{starts_with}
 use Rattle.std.specs.Str.{bytes_eq}
-use Rattle.std.proofs.lemmas.Bool.{false≢true, and_parts, and_from, or_cases, cases_Bool, cond-true, cond-false, eqb-true, eq-eqb, ltb-true, ne_eqb, not-true, both_ways, false_from_ne_true}
-use Rattle.std.proofs.lemmas.List.{drop_at, drop-append-le, get_or-take, get_or_append_left, get_or_push, length_push, length-take-le}
+use Rattle.std.proofs.lemmas.Bool.{false≢true, and_parts, and_from, or_cases, cases_Bool, cond-true, cond-false, eqb-true, eq-eqb, ltb-true, not-true, both_ways, false_from_ne_true}
+use Rattle.std.proofs.lemmas.List.{drop_at, drop-append-le, get_or-take, get_or_append_left, get_or_push, length-take-le}
 use Rattle.std.proofs.lemmas.Slice.Eq.{bytes_eq-Decides}
 use Rattle.lp_form.specs.Templates.{Piece, steps_of, holes_of}
 use Rattle.lp_form.specs.Templates as template
@@ -17,12 +17,12 @@ use Rattle.lp_spelling.specs.Lines.{slot_text, line_of}
 use Rattle.lp_spelling.specs.HoleEnds.{first_at, place, goes_on, ends_symbols, is_alone, kind_len, hole_len}
 use Rattle.lp_spelling.specs.Fillings.{holds}
 use Rattle.lp_spelling.specs.LineReading.{◌>>=◌, after, kind_of, new_at, slot_at, line_at}
-use Rattle.lp_spelling.specs.LineHoles.{IsFound, known_after, known_in, SlotFound, is_apart}
+use Rattle.lp_spelling.specs.LineHoles.{known_after, known_in, SlotFound, is_apart}
 use Rattle.lp_spelling.proofs.Exact.{known_small, slot_exact}
 use Rattle.lp_spelling.proofs.Fitting.{first_passes}
 use Rattle.lp_spelling.proofs.Reading.{after_again, next_slot, line_extends}
 use Rattle.lp_found.specs.LineTests.{is_comma, is_mark, is_marked, is_listed, is_told_by, is_told, are_told, steps_told}
-use Rattle.lp_found.specs.Parted.{HoldsNo, BeginsNo, IsParted}
+use Rattle.lp_found.specs.Parted.{IsParted}
 use Rattle.lp_found.specs.Found.{are_words, LinesFound}
 use Rattle.lp_found.proofs.Places.{begins_more}
 use Rattle.lp_found.proofs.Holding.{holds_first}
@@ -89,15 +89,15 @@ mark_back prefix holes n (c ∷ t) Prefix (q ∷ ps) h e =
     let line : List ℕ = line_of prefix holes parts in
     let none : holds s x ≡ false
     = false_from_ne_true _ (λ y.
-        let i : ℕ = place s x in
-        let lt : i < length x = ltb-true (place s x) (length x) (holds_first c (t ++ (prefix ++ q.0)) x y) in
-        let there : starts_with eqb (drop i x) s ≡ true = first_passes (λ u. starts_with eqb u s) x lt in
-        let d : drop i (x ++ line) ≡ drop i x ++ line = drop-append-le i x line (omega (arith, lt)) in
-        let goes : goes_on prefix parts (drop i (x ++ line)) ≡ true
-        = goes_from prefix (c ∷ t) q ps (drop i (x ++ line)) (ap (λ (u : List ℕ). starts_with eqb u s) d ∙ begins_more s (drop i x) line there) in
-        let size : length (x ++ line) ≡ length x + length line = length-append x line in
-        let le = first_before (goes_on prefix parts) (x ++ line) i (omega (arith, lt, size)) goes in
-        omega (arith, lt, le, e)) in
+    let i : ℕ = place s x in
+    let lt : i < length x = ltb-true (place s x) (length x) (holds_first c (t ++ (prefix ++ q.0)) x y) in
+    let there : starts_with eqb (drop i x) s ≡ true = first_passes (λ u. starts_with eqb u s) x lt in
+    let d : drop i (x ++ line) ≡ drop i x ++ line = drop-append-le i x line (omega (arith, lt)) in
+    let goes : goes_on prefix parts (drop i (x ++ line)) ≡ true
+    = goes_from prefix (c ∷ t) q ps (drop i (x ++ line)) (ap (λ (u : List ℕ). starts_with eqb u s) d ∙ begins_more s (drop i x) line there) in
+    let size : length (x ++ line) ≡ length x + length line = length-append x line in
+    let le = first_before (goes_on prefix parts) (x ++ line) i (omega (arith, lt, size)) goes in
+    omega (arith, lt, le, e)) in
     (none, tt)
 
 text_back : (prefix : List ℕ) (holes : List (List ℕ)) (n : ℕ) (parts : List Piece) → is_marked parts ≡ true →
@@ -211,9 +211,9 @@ hole_back prefix kinds holes n k parts le t r = elim (cases_Bool ((k == n) && no
       let same : k ≡ n = eqb-true k n p.0 in
       let q : (ltb n (length kinds) && (is_alone n parts || is_told_by kinds (kind_of kinds n) parts)) ≡ true
       = ⊎_elim
-        (λ l. let lt = ltb-true k n l in absurd (omega (arith, lt, same)))
-        (λ h. (and_parts (k == n) _ h).1)
-        (or_cases (ltb k n) _ t) in
+      (λ l. let lt = ltb-true k n l in absurd (omega (arith, lt, same)))
+      (λ h. (and_parts (k == n) _ h).1)
+      (or_cases (ltb k n) _ t) in
       let c = and_parts (ltb n (length kinds)) _ q in
       let at : ReadsFrom prefix kinds holes n (Hole n) parts = subst (λ j. ReadsFrom prefix kinds holes n (Hole j) parts) same r in
       let met = next_back prefix kinds holes n parts (ltb-true n (length kinds) c.0) le c.1 at (not-true (is_alone n parts) p.1) in
