@@ -13,14 +13,14 @@ abbrev pieces : Part → ℕ → List Piece
 pieces p i = (get_or (steps_of p) i (step.Empty, [])).1
 
 -- what is read of it, where n holes are known before it
-abbrev read : Part → ℕ → ℕ → List (List ℕ) → Option (List (List ℕ))
-read p i n holes = line_at (codes "__") (holes_of p) (pieces p i) (take n holes) (line_of (codes "__") holes (pieces p i))
+abbrev read : List ℕ → Part → ℕ → ℕ → List (List ℕ) → Option (List (List ℕ))
+read prefix p i n holes = line_at prefix (holes_of p) (pieces p i) (take n holes) (line_of prefix holes (pieces p i))
 
 -- a type that holds what follows it
 state_holes : List (List ℕ)
 state_holes = codes "()>, __Nonterminal<" ∷ codes "T" ∷ []
 
-state_cut : read part.StateFn 4 0 state_holes ≡ Some (codes "(" ∷ codes ")>, __Nonterminal<T" ∷ [])
+state_cut : read (codes "__") part.StateFn 4 0 state_holes ≡ Some (codes "(" ∷ codes ")>, __Nonterminal<T" ∷ [])
 unfolding state_holes steps_of holes_of line_of line_at slot_at new_at after hole_len is_alone left_by times kind_len first_at
 state_cut = refl
 
@@ -35,9 +35,17 @@ transition_same : line_of (codes "__") transition_holes (pieces part.Transition 
 unfolding transition_holes transition_others steps_of line_of
 transition_same = refl
 
-transition_read : read part.Transition 2 1 transition_holes ≡ Some transition_others
+transition_read : read (codes "__") part.Transition 2 1 transition_holes ≡ Some transition_others
 unfolding transition_holes transition_others steps_of holes_of line_of line_at slot_at new_at after hole_len is_alone left_by times kind_len first_at
 transition_read = refl
+
+-- a prefix with which `core` begins
+core_holes : List (List ℕ)
+core_holes = codes "0" ∷ [] ∷ codes "csym0" ∷ codes "core::marker::PhantomData::<()>" ∷ []
+
+core_lost : read (codes "c") part.Transition 2 1 core_holes ≡ None
+unfolding core_holes steps_of holes_of line_of line_at slot_at new_at after hole_len is_alone left_by times kind_len first_at
+core_lost = refl
 
 -- a location that holds what follows it
 pop_holes : List (List ℕ)
@@ -53,6 +61,6 @@ pop_same = refl
 pop_short : List (List ℕ)
 pop_short = codes "n" ∷ codes ",__Symbol<" ∷ codes "b" ∷ codes "t" ∷ []
 
-pop_lost : read part.Pop 3 1 pop_short ≡ None
+pop_lost : read (codes "__") part.Pop 3 1 pop_short ≡ None
 unfolding pop_short steps_of holes_of line_of line_at slot_at new_at after hole_len is_alone left_by times kind_len first_at
 pop_lost = refl
