@@ -25,10 +25,10 @@ unfolding state_holes steps_of holes_of line_of line_at slot_at new_at after hol
 state_cut = refl
 
 -- a text behind symbols that begins as a symbol
-transition_holes : List (List ℕ)
+unfoldable pub transition_holes : List (List ℕ)
 transition_holes = codes "0" ∷ [] ∷ codes "__a" ∷ codes "__b, c" ∷ []
 
-transition_others : List (List ℕ)
+unfoldable pub transition_others : List (List ℕ)
 transition_others = codes "0" ∷ [] ∷ codes "__a, __b" ∷ codes "c" ∷ []
 
 transition_same : line_of (codes "__") transition_holes (pieces part.Transition 2) ≡ line_of (codes "__") transition_others (pieces part.Transition 2)

@@ -12,3 +12,5 @@ pub mod Lines
 pub mod Needed
 pub mod Law
 pub mod Examples
+pub mod Plain
+pub mod Ambiguous

@@ -83,7 +83,7 @@ identifier_words text u h =
     let p = and_parts (not (same_text text (codes "_"))) (identifier.is_word (chars text)) h in
     subst (λ x. list_all is_word x ≡ true) (encodes-chars text u) (all_words (chars text) (word_continues (chars text) p.1))
 
-ascii_at : (t : List ℕ) → list_all (λ b. ltb b 128) t ≡ true → (i : ℕ) → slice_index t i < 128
+pub ascii_at : (t : List ℕ) → list_all (λ b. ltb b 128) t ≡ true → (i : ℕ) → slice_index t i < 128
 ascii_at [] h i = omega arith
 ascii_at (b ∷ t) h zero = ltb-true b 128 (and_parts (ltb b 128) (list_all (λ b. ltb b 128) t) h).0
 ascii_at (b ∷ t) h (suc i) = ascii_at t (and_parts (ltb b 128) (list_all (λ b. ltb b 128) t) h).1 i
