@@ -22,7 +22,7 @@ span_of (UnrecognizedToken token expected) = span_between token.0 token.2
 span_of (ExtraToken token) = span_between token.0 token.2
 span_of (User error) = span_between error.location (min (error.location + 1) (2 ^ 64 - 1))
 
--- the text from one place to another, which is empty where one of them is past the end or within a character
+-- the text from one place to another, which is empty where they are turned, past the end or within a character
 abbrev pub text_between : List ℕ → ℕ → ℕ → List ℕ
 text_between text lo hi = if nat_le hi (length text) && is_utf8 (slice_range text lo hi) then slice_range text lo hi else []
 
@@ -30,18 +30,19 @@ text_between text lo hi = if nat_le hi (length text) && is_utf8 (slice_range tex
 abbrev pub character_at : List ℕ → ℕ → Option ℕ
 character_at text location = slice_get (chars (text_between text location (length text))) 0
 
--- words that end with a text between backquotes, the first of which they have
+-- a text behind its front, which ends with a backquote, and a backquote behind it
 abbrev pub quoted : List ℕ → List ℕ → List ℕ
 quoted front text = front ++ (text ++ codes "`")
 
 abbrev pub end_message : List ℕ
 end_message = codes "unexpected end of file"
 
--- no token begins with this character, or the text ends
+-- of a character that begins no token, or of the end of the text
 abbrev pub invalid_message : Option ℕ → List ℕ
 invalid_message None = end_message
 invalid_message (Some c) = quoted (codes "invalid character `") (encode_utf8 c)
 
+-- of the errors of the tokenizer and of escapes
 abbrev pub code_message : ErrorCode → List ℕ
 code_message code.UnrecognizedToken = codes "unrecognized token"
 code_message code.UnterminatedEscape = codes "unterminated escape; missing '`'?"
@@ -54,7 +55,7 @@ code_message code.ExpectedStringLiteral = codes "expected string literal; missin
 code_message code.UnterminatedCode = codes "unterminated code block; perhaps a missing `;`, `)`, `]` or `}`?"
 code_message code.UnterminatedBlockComment = codes "unterminated block comment; missing `*/`?"
 
--- what is told of an error in this text
+-- what is told of an error of reading this text
 abbrev pub message_of : List ℕ → ParseError ℕ Tok Error → List ℕ
 message_of text (InvalidToken location) = invalid_message (character_at text location)
 message_of text (UnrecognizedEof location expected) = end_message
