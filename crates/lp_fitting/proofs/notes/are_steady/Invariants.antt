@@ -1,0 +1,6 @@
+use Rattle.std.proofs.Common.{◌≡◌, false, take, All}
+use Rattle.lp_laws.specs.LineTexts.{ends_open, IsSkipped}
+use Rattle.lp_fitting.proofs.notes.are_steady.Given as goal
+
+abbrev pub invariant-loop-line : goal.invariant-loop-line
+invariant-loop-line l = All (λ line. IsSkipped line × (ends_open line ≡ false)) (take l.line-index l.lines)
