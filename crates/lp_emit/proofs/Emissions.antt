@@ -1,5 +1,5 @@
 -- A text of what was built, and why there is none.
-use Rattle.std.proofs.Common.{◌≡◌, List, ℕ, Result, Ok, Err, IfOk, subst, sym, ⊎_elim}
+use Rattle.std.proofs.Common.{◌≡◌, List, ℕ, Result, Ok, Err, IfOk, inr, subst, sym}
 use Rattle.lp_program.specs.Reads.{ReadsAs}
 use Rattle.lp_repr.specs.declared.lr1.StartStates.{StartStates}
 use Rattle.lp_repr.specs.declared.repr.Grammar.{Grammar}
@@ -35,7 +35,7 @@ emission g states options bytes (Err e) program may is fits same = same
 
 -- what is refused of the program that is built is refused of the grammar and its states
 pub refuses : (g : Grammar) (states : List StartStates) (program : Program) (error : EmitError) → MayBeEmitted g states → IsBuilt g states program → RefusesProgram g program error → Refuses g states error
-refuses g states program (BadText place byte) may is r = (may.buildable, may.tabled, right (may.texts, (program, is, r)))
+refuses g states program (BadText place byte) may is r = (may.buildable, may.tabled, inr (may.texts, (program, is, r.0, r.1, r.2)))
 refuses g states program Memory may is r = tt
 refuses g states program NoStart may is r = absurd r
 refuses g states program Unsupported may is r = absurd r

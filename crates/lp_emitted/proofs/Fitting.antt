@@ -1,5 +1,5 @@
 -- The uses, user code and tables of a grammar that may be emitted fit.
-use Rattle.std.proofs.Common.{◌≡◌, ℕ, ◌≤◌, min, Bool, true, false, if◌then◌else◌, List, [], ◌∷◌, ◌++◌, length, get_or, slice_get, slice_index_or, codes, All, FitsSigned, Some, None, IfSome, IsUtf8, ◌<◌, ap, sym, ◌∙◌, subst, arith}
+use Rattle.std.proofs.Common.{◌≡◌, ℕ, ◌≤◌, min, Bool, true, false, if◌then◌else◌, List, [], ◌∷◌, ◌++◌, length, get_or, slice_get, slice_index_or, codes, All, FitsSigned, Some, None, IfSome, IsUtf8, ◌<◌, ap, ◌∙◌, subst, arith}
 use Rattle.std.specs.BTreeMap.{values}
 use Rattle.std.specs.Int.{w32}
 use Rattle.std.proofs.lemmas.List.Elements.{All-cons, All-nil}
