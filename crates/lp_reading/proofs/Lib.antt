@@ -1,3 +1,4 @@
+pub mod Betweens
 pub mod Layouts
 pub mod Values
 pub mod Runs

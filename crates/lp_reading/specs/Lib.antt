@@ -11,3 +11,4 @@ pub mod Grammars
 pub mod Tops
 pub mod Prefixes
 pub mod Bytes
+pub mod Messages
