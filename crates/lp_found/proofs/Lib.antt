@@ -1,0 +1,16 @@
+pub mod Places
+pub mod Words
+pub mod Holding
+pub mod Asking
+pub mod GoingOn
+pub mod FirstEnds
+pub mod LastEnds
+pub mod SymbolEnds
+pub mod VisibilityEnds
+pub mod KindEnds
+pub mod Lines
+pub mod Needed
+pub mod Law
+pub mod Examples
+pub mod Plain
+pub mod Ambiguous

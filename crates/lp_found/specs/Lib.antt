@@ -1,0 +1,4 @@
+pub mod LineTests
+pub mod Parted
+pub mod Found
+pub mod Laws

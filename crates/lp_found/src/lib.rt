@@ -1,0 +1,4 @@
+//! The holes of printed lines are found again, for all templates.
+#![tactic(auto)]
+
+pub mod laws;
