@@ -1,4 +1,2 @@
+pub mod Emissions
 pub mod Firsts
-pub mod Modules
-pub mod Programs
-pub mod Shifts

@@ -1,23 +1,21 @@
 -- Why nothing is emitted, in the order of the causes, and what a sink then holds.
-use Rattle.std.specs.Prelude.{◌≡◌, ℕ, ◌<◌, ◌≤◌, true, false, List, [], length, min, max, fold}
-use Rattle.lp_repr.specs.Numbering.{productions_of}
+use Rattle.std.specs.Prelude.{◌≡◌, ℕ, ◌<◌, ◌⊎◌, true, false, List}
 use Rattle.lp_repr.specs.declared.lr1.StartStates.{StartStates}
 use Rattle.lp_repr.specs.declared.repr.Grammar.{Grammar}
 use Rattle.lp_repr.specs.declared.repr.LrCodeGeneration.TheVariants.{TestAll, RecursiveAscent}
 use Rattle.lp_texts.specs.TextRules.{TextsMeet, IsFirstFault}
 use Rattle.lp_texts.specs.declared.faults.TextFault.TheVariants.{Bad}
+use Rattle.lp_texts.specs.declared.faults.TextPlace.{TextPlace}
 use Rattle.lp_valid.specs.Refusals.{RefusesGrammar}
 use Rattle.lp_valid.specs.ValidGrammar.{IsValidGrammar}
 use Rattle.lp_valid.specs.declared.grammars.GrammarFault.TheVariants.{Rule}
 use Rattle.lp_write.specs.Sinks.{Told, Broke}
 use Rattle.lp_emit.specs.Clashes.{HasNoClash, IsLeastClash}
-use Rattle.lp_emit.specs.Lists.{AreTabled, IsTableFailure}
+use Rattle.lp_emitted.specs.Emittable.{AreTabled, CountsFit, HasNoStart, greatest_count}
+use Rattle.lp_emit.specs.Lists.{IsTableFailure}
+use Rattle.lp_emit.specs.Misfits.{HasFit, HasMisfit}
 use Rattle.lp_emit.specs.declared.errors.EmitError.{EmitError}
 use Rattle.lp_emit.specs.declared.errors.EmitError.TheVariants.{NoStart, Unsupported, BadGrammar, RecoveryInAscent, NameClash, TooMany, BadTables, BadText, WriteFault, Memory}
-
--- there is no start
-abbrev pub HasNoStart : Grammar → Type 0
-HasNoStart g = g.start_nonterminals.entries ≡ []
 
 -- the code of all back ends is asked for
 abbrev pub AsksForAll : Grammar → Type 0
@@ -26,15 +24,6 @@ AsksForAll g = g.algorithm.codegen ≡ TestAll
 -- recursive ascent is asked for
 abbrev pub IsByAscent : Grammar → Type 0
 IsByAscent g = g.algorithm.codegen ≡ RecursiveAscent
-
--- the greatest of a number and of the lengths of some lists of states
-abbrev pub greatest_of : ℕ → List StartStates → ℕ
-greatest_of n states = fold (λ most list. max most (length list.states)) n states
-
--- what the integers that number states have to hold: the productions, counted up to the greatest number,
--- and the states of each start
-abbrev pub greatest_count : Grammar → List StartStates → ℕ
-greatest_count g states = greatest_of (min (length (productions_of g)) 18446744073709551615) states
 
 -- there are more states of a start, or more productions, than there are such numbers
 abbrev pub HasTooMany : Grammar → List StartStates → ℕ → Type 0
@@ -53,10 +42,6 @@ IsSound g = IsSupported g × IsValidGrammar g
 abbrev pub SuitsAscent : Grammar → Type 0
 SuitsAscent g = IsByAscent g → (g.uses_error_recovery ≡ false) × HasNoClash g
 
--- the counts fit
-abbrev pub CountsFit : Grammar → List StartStates → Type 0
-CountsFit g states = greatest_count g states ≤ 2147483647
-
 -- none of the causes before those of tables and texts holds
 pub record IsBuildable (g : Grammar) (states : List StartStates) : Type 0 where
   pub sound : IsSound g
@@ -69,6 +54,11 @@ pub record MayBeEmitted (g : Grammar) (states : List StartStates) : Type 0 where
   pub tabled : AreTabled g states
   pub texts : TextsMeet g
 
+-- this text breaks the rule of its kind, and is the first that does; or each meets its rule, but not all may stand where they
+-- are put together, which is told behind them
+abbrev pub BreaksText : Grammar → List StartStates → TextPlace → ℕ → Type 0
+BreaksText g states place byte = IsFirstFault g (Bad place byte) ⊎ (TextsMeet g × HasMisfit g states place byte)
+
 -- what each refusal tells of the grammar and its states: its cause, and that no earlier one holds
 abbrev pub Refuses : Grammar → List StartStates → EmitError → Type 0
 Refuses g states NoStart = HasNoStart g
@@ -78,7 +68,7 @@ Refuses g states RecoveryInAscent = IsSound g × IsByAscent g × (g.uses_error_r
 Refuses g states (NameClash first second) = IsSound g × IsByAscent g × (g.uses_error_recovery ≡ false) × IsLeastClash g first second
 Refuses g states (TooMany count) = IsSound g × SuitsAscent g × HasTooMany g states count
 Refuses g states (BadTables start state rule) = IsBuildable g states × IsTableFailure g states start state rule
-Refuses g states (BadText place byte) = IsBuildable g states × AreTabled g states × IsFirstFault g (Bad place byte)
+Refuses g states (BadText place byte) = IsBuildable g states × AreTabled g states × BreaksText g states place byte
 Refuses g states WriteFault = ⊥
 Refuses g states Memory = Unit {0}
 
@@ -88,7 +78,7 @@ RefusesAlways g error = (states : List StartStates) → Refuses g states error
 
 -- why a text is not written: its cause, or a fault of the sink where no cause holds
 abbrev pub RefusesToWrite : Grammar → List StartStates → EmitError → Type 0
-RefusesToWrite g states WriteFault = MayBeEmitted g states
+RefusesToWrite g states WriteFault = MayBeEmitted g states × HasFit g states
 RefusesToWrite g states error = Refuses g states error
 
 -- what a sink tells after a refusal: of some text a part was appended and its count rose, else nothing

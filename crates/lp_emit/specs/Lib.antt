@@ -1,7 +1,6 @@
-pub mod Built
 pub mod Causes
 pub mod Clashes
 pub mod Lists
+pub mod Misfits
 pub mod Steps
 pub mod Texts
-pub mod Visibilities

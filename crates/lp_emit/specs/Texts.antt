@@ -1,17 +1,20 @@
--- The text of a program, and that of the parsers of a grammar.
+-- The text of the parsers of a grammar.
 use Rattle.std.specs.Prelude.{◌≡◌, ℕ, List}
-use Rattle.lp_program.specs.Printed.{lines}
+use Rattle.lp_program.specs.Reads.{ReadsAs}
 use Rattle.lp_repr.specs.declared.lr1.StartStates.{StartStates}
 use Rattle.lp_repr.specs.declared.repr.Grammar.{Grammar}
 use Rattle.lp_tree.specs.declared.tree.Program.{Program}
-use Rattle.lp_write.specs.Lines.{lines_bytes}
 use Rattle.lp_write.specs.declared.rust.Options.{Options}
-use Rattle.lp_emit.specs.Built.{IsBuilt}
+use Rattle.lp_assembly.specs.Built.{IsBuilt}
+use Rattle.lp_fitting.specs.Fitting.{IsFitting}
+use Rattle.lp_laws.specs.AsRead.{IsRead}
+use Rattle.lp_laws.specs.Laws.{text_of}
 
--- the bytes of its lines, the first without indent
-abbrev pub text_of : Options → Program → List ℕ
-text_of options program = lines_bytes options.whitespace 0 (lines options program)
-
--- the text of the program that is built of a grammar and its states
-abbrev pub IsEmission : Grammar → List StartStates → Options → List ℕ → Type 0
-IsEmission g states options text = (program : Program) × IsBuilt g states program × (text ≡ text_of options program)
+-- the bytes of the lines of the program that is built of a grammar and its states, whose texts may stand where they do; and it
+-- reads as that program
+pub record IsEmission (g : Grammar) (states : List StartStates) (options : Options) (text : List ℕ) : Type 0 where
+  pub program : Program
+  pub built : IsBuilt g states program
+  pub fitting : IsFitting program
+  pub printed : text ≡ text_of options program
+  pub reads : (read : Program) → IsRead options.whitespace program read → ReadsAs text read

@@ -4,17 +4,21 @@ ghost use Rattle.std.specs.Prelude.{◌≡◌, ℕ, ◌<◌, ◌↔◌, Some, Is
 ghost use Rattle.std.specs.Map.Iter.{deref};
 ghost use Rattle.std.specs.BTreeMap.{keys};
 ghost use Rattle.lp_repr.specs.ValidTables.{IsValidTables};
-ghost use Rattle.lp_emit.specs.Causes.{IsBuildable, IsByAscent, IsSound, IsSupported, MayBeEmitted, Refuses, RefusesAlways, SuitsAscent, greatest_of};
-ghost use Rattle.lp_emit.specs.Lists.{AreTabled, HasItsList, IsTabled};
+ghost use Rattle.lp_emit.specs.Causes.{IsBuildable, IsByAscent, IsSound, IsSupported, MayBeEmitted, Refuses, RefusesAlways, SuitsAscent};
+ghost use Rattle.lp_emit.specs.Misfits.{RefusesProgram};
 ghost use Rattle.lp_emit.specs.Steps.{RefusesLists, RefusesStates};
+ghost use Rattle.lp_emitted.specs.Emittable.{AreTabled, HasItsList, IsTabled, greatest_of};
+ghost use Rattle.lp_fitting.specs.Fitting.{IsFitting};
 
 use crate::clash::name_clash;
 use crate::errors::EmitError;
+use lp_fitting::is_fitting;
 use lp_repr::numbering::production_count;
 use lp_repr::repr::{Grammar, LrCodeGeneration, NonterminalString};
 use lp_repr::{Lr1State, StartStates};
 use lp_tables::{TableFault, check_tables};
-use lp_texts::{TextFault, check_texts};
+use lp_texts::{TextFault, TextKind, TextPlace, check_texts};
+use lp_tree::Program;
 use lp_valid::{GrammarFault, check_grammar};
 use std::alloc::{AllocError, Global};
 
@@ -202,4 +206,23 @@ fn check_all_texts(
         Err(TextFault::Bad { place, byte }) => Err(EmitError::BadText { place, byte }),
         Err(TextFault::Memory) => Err(EmitError::Memory),
     }
+}
+
+/// The texts of the program that is built may stand where they do. Else the place behind all texts
+/// of the grammar is told, since each meets its rule by itself.
+pub(crate) fn check_fit(
+    alloc: Global,
+    grammar: &Grammar,
+    program: &Program<'_>,
+) -> Result<(), EmitError>
+    ensures { MatchResult result (λ _. IsFitting program.now) (RefusesProgram grammar.now program.now) }
+{
+    if is_fitting(alloc, program)? {
+        return Ok(());
+    }
+    let place = TextPlace {
+        kind: TextKind::Code,
+        number: grammar.action_fn_defns.as_slice().len(),
+    };
+    Err(EmitError::BadText { place, byte: 0 })
 }

@@ -2,13 +2,14 @@
 
 ghost use Rattle.std.specs.Prelude.{◌≡◌, ℕ, List, OnOk, IfOk, IfErr, MatchResult, string_bytes};
 ghost use Rattle.lp_emit.specs.Causes.{AfterRefusal, MayBeEmitted, Refuses, RefusesToWrite};
-ghost use Rattle.lp_emit.specs.Texts.{IsEmission, text_of};
+ghost use Rattle.lp_emit.specs.Texts.{IsEmission};
 ghost use Rattle.lp_emit.specs.declared.errors.EmitError.TheVariants.{Memory};
+ghost use Rattle.lp_laws.specs.Laws.{text_of};
 ghost use Rattle.lp_write.specs.Sinks.{Took};
 
-use crate::checks::check;
+use crate::checks::{check, check_fit};
 use crate::errors::EmitError;
-use crate::program::build_program;
+use lp_assembly::build_program;
 use lp_program::print_program;
 use lp_repr::StartStates;
 use lp_repr::repr::Grammar;
@@ -18,7 +19,9 @@ use lp_write::{CountSink, Failed, MemorySink, Options, RustWrite, Sink, WriteErr
 use std::alloc::Global;
 
 /// Appends the text of the parsers of a grammar and its states, one list per start. The text is
-/// measured and made whole in memory before the first byte is written.
+/// measured and made whole in memory before the first byte is written. It reads as the program that is
+/// built of them: that each text in the program may stand where it does is looked at before it is
+/// printed.
 pub fn emit_parsers<K: Sink>(
     alloc: Global,
     grammar: &Grammar,
@@ -26,7 +29,7 @@ pub fn emit_parsers<K: Sink>(
     options: &Options,
     sink: &mut K,
 ) -> Result<(), EmitError>
-    // The text of the program that is built is appended whole, and then none of the causes holds.
+    // The text of the program that is built is appended whole, and reads as that program. Then none of the causes holds.
     ensures whole { OnOk result ((text : List ℕ) × IsEmission grammar.now states.now options.now text × Took (K.told sink.old) (K.told sink.new) text) }
     ensures passes { OnOk result (MayBeEmitted grammar.now states.now) }
 
@@ -53,6 +56,7 @@ pub fn emitted_text(
 {
     check(alloc, grammar, states)?;
     let program = build_program(alloc, grammar, states)?;
+    check_fit(alloc, grammar, &program)?;
     printed(alloc, &program, *options)
 }
 

@@ -42,7 +42,9 @@ pub enum EmitError {
         state: usize,
         rule: u8,
     },
-    /// A text can't stand in a program: the first place, and the byte.
+    /// A text breaks the rule of its kind: the first such text, and its first wrong byte. Where each
+    /// meets its rule, but not all may stand where they are put together in the program, it is the
+    /// place behind the last, which is the code of the action after the last, and the byte 0.
     #[error("bad text")]
     BadText {
         place: TextPlace,

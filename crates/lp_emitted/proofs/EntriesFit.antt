@@ -14,7 +14,7 @@ use Rattle.lp_repr.specs.declared.lr1.Token.{Token}
 use Rattle.lp_repr.specs.declared.repr.Grammar.{Grammar}
 use Rattle.lp_repr.specs.declared.repr.NonterminalData.{NonterminalData}
 use Rattle.lp_parts.specs.Entries.{EntriesFit, action_entries, action_entry, action_row, end_entries, end_entry, entry_of, first_of_two, is_eof, is_terminal, reduced_by, reduced_on}
-use Rattle.lp_emit.specs.Causes.{greatest_of}
+use Rattle.lp_emitted.specs.Emittable.{greatest_of}
 
 abbrev Small : Option ℕ → Type 0
 Small o = IfSome o (λ n. n < 2147483647)

@@ -22,7 +22,7 @@ use Rattle.lp_spelling.proofs.Reading.{starts_ok}
 use Rattle.lp_program.specs.Reads.{is_prefix}
 use Rattle.lp_laws.proofs.Fronts.{chars_some}
 use Rattle.lp_laws.proofs.Sound.{plain_ascii}
-use Rattle.lp_emit.specs.Causes.{MayBeEmitted}
+use Rattle.lp_emitted.specs.Emittable.{IsEmittable}
 
 -- the first start has a name that begins with the prefix
 record Named (prefix : List ℕ) : Type 0 where
@@ -87,7 +87,5 @@ named_prefix prefix utf8 some n =
     (ap is_word (chars-append prefix (codes "lalrpop_util") utf8)
     ∙ word_front (chars prefix) (chars rest) (chars (codes "lalrpop_util")) (chars_some prefix utf8 some) word util))
 
-pub prefix_fits : (g : Grammar) (states : List StartStates) → MayBeEmitted g states → IsUtf8 g.prefix → 0 < length g.prefix → is_prefix g.prefix ≡ true
-prefix_fits g states m utf8 some =
-    let sound = m.buildable.sound in
-    named_prefix g.prefix utf8 some (first_named g.prefix g.start_nonterminals.entries sound.0.0 (sound.1 names 0).0 (sound.1 prefixes 0).0)
+pub prefix_fits : (g : Grammar) (states : List StartStates) → IsEmittable g states → IsUtf8 g.prefix → 0 < length g.prefix → is_prefix g.prefix ≡ true
+prefix_fits g states m utf8 some = named_prefix g.prefix utf8 some (first_named g.prefix g.start_nonterminals.entries m.start (m.valid names 0).0 (m.valid prefixes 0).0)

@@ -23,7 +23,7 @@ use Rattle.lp_ascent.specs.BuiltAscent.{built_ascent_at, built_ascent_for}
 use Rattle.lp_table.specs.BuiltTable.{built_for, built_table_at}
 use Rattle.lp_table.specs.Starts.{start_for}
 use Rattle.lp_actions.specs.ActionFunctions.{action_functions}
-use Rattle.lp_emit.specs.Built.{AreFollowed, AreModules, IsModuleBy, front_lines, implementations, intern_entry, intern_lines, joined_clauses, reexport_lines, token_lines, triple_lines}
+use Rattle.lp_assembly.specs.Built.{AreFollowed, AreModules, IsModuleBy, front_lines, implementations, intern_entry, intern_lines, joined_clauses, reexport_lines, token_lines, triple_lines}
 use Rattle.lp_emitted.proofs.Actions.{CodesTold, action_functions_many}
 use Rattle.lp_emitted.proofs.AscentModules.{built_ascent_one}
 use Rattle.lp_emitted.proofs.Rows.{Told, Takes, beside, many_all, many_flat, many_map, many_one, one_leaf, optional_if, optional_none, optional_one, over_one, pairs_more, pairs_none, told_leaf}

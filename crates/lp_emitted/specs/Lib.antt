@@ -1,3 +1,4 @@
+pub mod Emittable
 pub mod Shapes
 pub mod TextsFit
 pub mod Laws

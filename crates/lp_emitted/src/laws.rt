@@ -10,9 +10,9 @@ pub fn built()
     ensures well_formed { ShapedIsWellFormed }
 {}
 
-/// Where a grammar and its states may be emitted, the uses, the user code and the tables of the
-/// program that is built of them fit, and its prefix is one where it isn't empty. So, where its holes
-/// hold what they may, it is well formed, and its text reads as it.
+/// Where a grammar and its states may be emitted, and the texts of the program that is built of them
+/// may stand where they do, its uses, its user code and its tables fit too, and its prefix is one. So
+/// it is well formed, and its text reads as it.
 pub fn emitted()
     ensures fits { EmittedFits }
     ensures prefix { EmittedHasPrefix }

@@ -4,6 +4,7 @@ use Rattle.std.proofs.lemmas.Bool.{cases_Bool, cond-true, cond-false, eqb-true}
 use Rattle.std.proofs.lemmas.List.{replicate-append-replicate}
 use Rattle.lp_spelling.specs.Counting.{settled}
 use Rattle.lp_laws.specs.LineTexts.{Counts, IsSkipped, text_in}
+use Rattle.lp_laws.specs.WellFormed.{IsTrailing}
 use Rattle.lp_write.specs.Lines.{Line, lowered, blanks, indented, indent_after, indent_after_all, line_bytes, lines_bytes}
 use Rattle.lp_write.specs.Lines.Line.{line, verbatim}
 use Rattle.lp_program.specs.Reads.{TakesLine}
@@ -64,13 +65,23 @@ pub bytes-first : (w : Bool) (i : ℕ) (l : Line) (ls : List Line) (tail : List 
     lines_bytes w i (l ∷ ls) ++ tail ≡ line_bytes w i l ++ (lines_bytes w (indent_after i l) ls ++ tail)
 bytes-first w i l ls tail = append_assoc (line_bytes w i l) (lines_bytes w (indent_after i l) ls) tail
 
+-- a comment with blanks in front is one of more blanks
+pub trailing_laid : (k : ℕ) (x rest : List ℕ) (t : IsTrailing x) → laid k x rest ≡ laid (k + t.blanks) t.comment rest
+trailing_laid k x rest t = ap (λ y. laid k y rest) t.is ∙ laid_blanks k t.blanks t.comment rest
+
+pub trailing_over : (k : ℕ) (x rest : List ℕ) → IsTrailing x → settled (laid k x rest) ≡ settled rest
+trailing_over k x rest t = ap settled (trailing_laid k x rest t) ∙ settled_over (k + t.blanks) t.comment rest t.skipped
+
+pub skipped_trails : (x : List ℕ) → IsSkipped x → IsTrailing x
+skipped_trails x s = record { blanks = 0; comment = x; is = refl; skipped = s }
+
 -- lines that don't count
-pub skipped_lines : (w : Bool) (i : ℕ) (ls : List Line) (tail : List ℕ) → All (λ l. IsSkipped (text_in l)) ls → settled (lines_bytes w i ls ++ tail) ≡ settled tail
+pub skipped_lines : (w : Bool) (i : ℕ) (ls : List Line) (tail : List ℕ) → All (λ l. IsTrailing (text_in l)) ls → settled (lines_bytes w i ls ++ tail) ≡ settled tail
 skipped_lines w i [] tail h = refl
 skipped_lines w i (l ∷ ls) tail h =
     let rest : List ℕ = lines_bytes w (indent_after i l) ls ++ tail in
     let at = any_laid w i l rest in
-    ap settled (bytes-first w i l ls tail ∙ at.is) ∙ settled_over at.count (text_in l) rest (h 0 l (omega arith)) ∙ skipped_lines w (indent_after i l) ls tail (λ k d lt. h (suc k) d (omega arith))
+    ap settled (bytes-first w i l ls tail ∙ at.is) ∙ trailing_over at.count (text_in l) rest (h 0 l (omega arith)) ∙ skipped_lines w (indent_after i l) ls tail (λ k d lt. h (suc k) d (omega arith))
 
 -- a line that counts is taken, and one that doesn't is passed over
 pub line_back : (w : Bool) (i : ℕ) (l : Line) (rest : List ℕ) → Counts (text_in l) → TakesLine (text_in l) (line_bytes w i l ++ rest) rest
@@ -78,5 +89,5 @@ line_back w i l rest c =
     let at = any_laid w i l rest in
     takes_laid (line_bytes w i l ++ rest) at.count (text_in l) rest c (ap settled at.is)
 
-pub line_over : (w : Bool) (i : ℕ) (l : Line) (rest : List ℕ) → IsSkipped (text_in l) → settled (line_bytes w i l ++ rest) ≡ settled rest
-line_over w i l rest s = let at = any_laid w i l rest in ap settled at.is ∙ settled_over at.count (text_in l) rest s
+pub line_over : (w : Bool) (i : ℕ) (l : Line) (rest : List ℕ) → IsTrailing (text_in l) → settled (line_bytes w i l ++ rest) ≡ settled rest
+line_over w i l rest s = let at = any_laid w i l rest in ap settled at.is ∙ trailing_over at.count (text_in l) rest s

@@ -22,15 +22,15 @@ use Rattle.lp_program.specs.OwnLines.{hole, spelled, note_lines, own_lines}
 use Rattle.lp_program.specs.Reads.{TakesLine, TakesLines, TakesOwn}
 use Rattle.lp_program.specs.TableRows.{table_lines}
 use Rattle.lp_program.specs.Trees.{Content, Note}
-use Rattle.lp_laws.specs.LineTexts.{is_on_line, Counts, IsSkipped, text_in}
+use Rattle.lp_laws.specs.LineTexts.{is_on_line, Counts, text_in}
 use Rattle.lp_laws.specs.LineTests.{is_good, is_sound_line}
 use Rattle.lp_laws.specs.TemplateTests.{is_class, exact_after, has_class, ends_next, is_sound_step}
-use Rattle.lp_laws.specs.WellFormed.{HolesFill, IsUseText, IsNote, StepFits}
+use Rattle.lp_laws.specs.WellFormed.{HolesFill, IsUseText, IsTrailing, IsNote, StepFits}
 use Rattle.lp_laws.proofs.Lining.{laid, settled_line, settled_over, takes_laid}
 use Rattle.lp_laws.proofs.Fronts.{Solid, good_solid, solid_loose, loose_counts}
 use Rattle.lp_laws.proofs.Sound.{IsPrefix, plain_ascii, sound_counts}
 use Rattle.lp_laws.proofs.Bytes.{any_laid, laid_blanks, bytes-first, skipped_lines}
-use Rattle.lp_laws.proofs.TableLines.{empty_skipped, table_reads}
+use Rattle.lp_laws.proofs.TableLines.{empty_skipped, no_trailing, table_reads}
 
 -- a text goes on as what was printed: byte by byte, or from its next line that counts on
 pub record Ready (exact : Bool) (text printed : List ℕ) : Type 0 where
@@ -136,11 +136,11 @@ pub settled_feed : (rest : List ℕ) → settled (10 ∷ rest) ≡ settled rest
 settled_feed rest = settled_over 0 [] rest empty_skipped
 
 -- comment lines of notes
-notes_skipped : (notes : List Note) → All IsNote notes → All (λ l. IsSkipped (text_in l)) (note_lines notes)
-notes_skipped [] h = All-nil (λ l. IsSkipped (text_in l))
+notes_skipped : (notes : List Note) → All IsNote notes → All (λ l. IsTrailing (text_in l)) (note_lines notes)
+notes_skipped [] h = All-nil (λ l. IsTrailing (text_in l))
 notes_skipped (n ∷ notes) h =
-    All-append (λ l. IsSkipped (text_in l)) (map line n.lines) (note_lines notes)
-    (Rattle.std.proofs.lemmas.List.Elements.All-map (λ l. IsSkipped (text_in l)) line n.lines (h 0 n (omega arith)).lines)
+    All-append (λ l. IsTrailing (text_in l)) (map line n.lines) (note_lines notes)
+    (Rattle.std.proofs.lemmas.List.Elements.All-map (λ l. IsTrailing (text_in l)) line n.lines (h 0 n (omega arith)).lines)
     (notes_skipped notes (λ k d lt. h (suc k) d (omega arith)))
 
 -- what a step itself takes off a text, where this was printed behind it
@@ -167,7 +167,7 @@ pub record Texts (prefix : List ℕ) (c : Content) (kinds : List Kind) : Type 0 
 pub line_counts : (prefix : List ℕ) (c : Content) (kinds : List Kind) (pieces : List Piece) → Texts prefix c kinds → is_sound_line kinds pieces ≡ true → Counts (line_of prefix c.holes pieces)
 line_counts prefix c kinds pieces t h = sound_counts prefix kinds c.holes pieces t.prefix_is t.fills h
 
-skipping : (options : Options) (i : ℕ) (ls : List Line) (text printed : List ℕ) → All (λ l. IsSkipped (text_in l)) ls → settled text ≡ settled (lines_bytes options.whitespace i ls ++ printed) → Ready false text printed
+skipping : (options : Options) (i : ℕ) (ls : List Line) (text printed : List ℕ) → All (λ l. IsTrailing (text_in l)) ls → settled text ≡ settled (lines_bytes options.whitespace i ls ++ printed) → Ready false text printed
 skipping options i ls text printed h e = ready_same text printed (e ∙ skipped_lines options.whitespace i ls printed h)
 
 pub own_read : (options : Options) (prefix : List ℕ) (c : Content) (kinds : List Kind) (done total i : ℕ) (exact : Bool) (s : Step) (pieces : List Piece) (others : List template.Line) (text printed : List ℕ) →
@@ -202,14 +202,14 @@ own_read options prefix c kinds done total i exact step.Entries pieces others te
           (settled_line 0 (93 ∷ e.others) e.rest e.counts ∙ sym (ap settled e.is ∙ settled_line e.blanks (93 ∷ e.others) e.rest e.counts));
     }
 own_read options prefix c kinds done total i exact step.Empty pieces others text printed t p h f m b r =
-    record { rest = text; takes = refl; ready = skipping options i (line [] ∷ []) text printed (All-cons (λ l. IsSkipped (text_in l)) (line []) [] empty_skipped (All-nil (λ l. IsSkipped (text_in l)))) r.same }
+    record { rest = text; takes = refl; ready = skipping options i (line [] ∷ []) text printed (All-cons (λ l. IsTrailing (text_in l)) (line []) [] no_trailing (All-nil (λ l. IsTrailing (text_in l)))) r.same }
 own_read options prefix c kinds done total i exact step.Note pieces others text printed t p h f m b r = elim (cases_Bool options.comments) [
   | inl y ↦
       let e : own_lines options prefix c total pieces step.Note ≡ note_lines c.notes = cond-true options.comments _ _ y in
       record { rest = text; takes = refl; ready = skipping options i (note_lines c.notes) text printed (notes_skipped c.notes t.notes) (r.same ∙ ap (λ x. settled (lines_bytes options.whitespace i x ++ printed)) e) }
   | inr n ↦
       let e : own_lines options prefix c total pieces step.Note ≡ [] = cond-false options.comments _ _ n in
-      record { rest = text; takes = refl; ready = skipping options i [] text printed (All-nil (λ l. IsSkipped (text_in l))) (r.same ∙ ap (λ x. settled (lines_bytes options.whitespace i x ++ printed)) e) }
+      record { rest = text; takes = refl; ready = skipping options i [] text printed (All-nil (λ l. IsTrailing (text_in l))) (r.same ∙ ap (λ x. settled (lines_bytes options.whitespace i x ++ printed)) e) }
 ]
 own_read options prefix c kinds done total i exact step.NoteAlways pieces others text printed t p h f m b r =
     record { rest = text; takes = refl; ready = skipping options i (note_lines c.notes) text printed (notes_skipped c.notes t.notes) r.same }

@@ -31,7 +31,7 @@ use Rattle.lp_laws.specs.LineTexts.{IsSkipped, ends_open}
 use Rattle.lp_laws.specs.TemplateTests.{is_class, has_class, is_one}
 use Rattle.lp_laws.specs.LevelTests.{rises, falls, one_if, step_rises, takes_falling, only_rises, step_falls, line_closes, line_opens, is_steady_line, is_firm_kind, is_firm_slot, is_firm_text, is_firm_line, Level, own_fits, own_level, rising_fits, class_fits, class_level, step_fits, step_level, are_level}
 use Rattle.lp_laws.specs.Levels.{may_raise, never_stays}
-use Rattle.lp_laws.specs.WellFormed.{HolesFill, IsNote, taken_in, is_shared, IsWellPart}
+use Rattle.lp_laws.specs.WellFormed.{HolesFill, IsTrailing, IsNote, taken_in, is_shared, IsWellPart}
 use Rattle.lp_laws.proofs.Forests.{front, behind, count_split, parts_front, taken_belong, no_trees, length-parts, Every, every_front, every_behind}
 use Rattle.lp_laws.proofs.FirstBytes.{Firm, firm-append, blanks_firm, prefix_firm, kind_firm}
 use Rattle.lp_laws.proofs.LastBytes.{open_behind, open_some}
@@ -96,8 +96,11 @@ skipped_firm (b ∷ x) h =
     let comment : starts_with Rattle.std.proofs.Common.eqb (b ∷ x) (codes "//") ≡ true = ⊎_elim (λ e. absurd (omega (arith, eqb-true (length (b ∷ x)) 0 e))) (λ y. y) (or_cases (length (b ∷ x) == 0) (starts_with Rattle.std.proofs.Common.eqb (b ∷ x) (codes "//")) h.1) in
     subst Firm (sym (starts_ok (codes "//") (b ∷ x) comment)) refl
 
-some_firm : (ls : List (List ℕ)) → All IsSkipped ls → All FirmLine (map line ls)
-some_firm ls h = All-map FirmLine line ls (λ k d lt. skipped_firm (get_or ls k d) (h k d lt))
+trailing_firm : (t : List ℕ) → IsTrailing t → Firm t
+trailing_firm t h = subst Firm (sym h.is) (firm-append (replicate h.blanks 32) h.comment (blanks_firm h.blanks) (skipped_firm h.comment h.skipped))
+
+some_firm : (ls : List (List ℕ)) → All IsTrailing ls → All FirmLine (map line ls)
+some_firm ls h = All-map FirmLine line ls (λ k d lt. trailing_firm (get_or ls k d) (h k d lt))
 
 notes_firm : (notes : List Note) → All IsNote notes → All FirmLine (note_lines notes)
 notes_firm [] h = All-nil FirmLine
@@ -110,7 +113,7 @@ entries_firm options es =
     (λ y. All-append FirmLine (map entry_line es) (line [] ∷ []) (All-map FirmLine entry_line es (λ k d lt. tt)) (All-cons FirmLine (line []) [] refl (All-nil FirmLine)))
     (λ n. All-cons FirmLine _ [] tt (All-nil FirmLine))
 
-row_firm : (options : Options) (state : ℕ) (numbers : List ℤ) (note : Note) → All IsSkipped note.lines → All FirmLine (row_lines options state numbers note)
+row_firm : (options : Options) (state : ℕ) (numbers : List ℤ) (note : Note) → All IsTrailing note.lines → All FirmLine (row_lines options state numbers note)
 row_firm options state numbers note h =
     let es : List (ℤ × List ℕ) = commented numbers note.comments in
     let notes : List Line = if options.comments then map line note.lines else [] in

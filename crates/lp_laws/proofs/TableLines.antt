@@ -23,7 +23,7 @@ use Rattle.std.proofs.lemmas.Str.{IsUtf8-append, IsUtf8-from_ascii}
 use Rattle.lp_laws.proofs.OnLine.{digits-on_line}
 use Rattle.lp_laws.proofs.Fronts.{ascii_begins}
 use Rattle.lp_laws.proofs.Sound.{plain_ascii}
-use Rattle.lp_laws.proofs.Bytes.{any_laid, bytes-split, bytes-first}
+use Rattle.lp_laws.proofs.Bytes.{any_laid, bytes-split, bytes-first, trailing_laid, skipped_trails}
 use Rattle.lp_laws.proofs.Numbers.{IsSmall, decimal_digits}
 use Rattle.lp_laws.proofs.Entries.{Gives, gives_then, gives_none, gives_one, gives_more, gives_feed, gives_blanks, gives_entries}
 
@@ -33,13 +33,13 @@ small (pos n) f = f.sfits
 small (negsuc n) f = f.sfits
 
 -- lines that don't count
-skipped_give : (w : Bool) (i : ℕ) (ls : List (List ℕ)) (tail : List ℕ) → All IsSkipped ls → Gives true (lines_bytes w i (map line ls) ++ tail) [] tail
+skipped_give : (w : Bool) (i : ℕ) (ls : List (List ℕ)) (tail : List ℕ) → All IsTrailing ls → Gives true (lines_bytes w i (map line ls) ++ tail) [] tail
 skipped_give w i [] tail h = λ t r. r
 skipped_give w i (l ∷ ls) tail h =
     let rest : List ℕ = lines_bytes w (indent_after i (line l)) (map line ls) ++ tail in
     let at = any_laid w i (line l) rest in
     let first = h 0 l (omega arith) in
-    let here : Gives true (laid at.count l rest) [] rest = gives_none at.count l rest first.0.on_line first.1 in
+    let here : Gives true (laid at.count l rest) [] rest = subst (λ x. Gives true x [] rest) (sym (trailing_laid at.count l rest first)) (gives_none (at.count + first.blanks) first.comment rest first.skipped.0.on_line first.skipped.1) in
     let all : Gives true (laid at.count l rest) [] tail = gives_then true (laid at.count l rest) rest tail [] [] here (skipped_give w (indent_after i (line l)) ls tail (λ k d lt. h (suc k) d (omega arith))) in
     subst (λ x. Gives true x [] tail) (sym (bytes-first w i (line l) (map line ls) tail ∙ at.is)) all
 
@@ -94,6 +94,9 @@ row_gives w (e ∷ es) rest h =
 pub empty_skipped : IsSkipped []
 empty_skipped = (record { utf8 = Rattle.std.proofs.lemmas.Str.IsUtf8-nil; on_line = refl; shown = ap (Rattle.lp_texts.specs.OneLine.begins Rattle.std.specs.Char.is_whitespace) Rattle.std.proofs.lemmas.Str.chars-nil }, refl)
 
+pub no_trailing : IsTrailing []
+no_trailing = skipped_trails [] empty_skipped
+
 entries_give : (options : Options) (i : ℕ) (es : List (ℤ × List ℕ)) (rest : List ℕ) → All Fits es → Gives true (lines_bytes options.whitespace i (entry_lines options es) ++ rest) (map (λ e. e.0) es) rest
 entries_give options i es rest h =
     let w : Bool = options.whitespace in
@@ -102,7 +105,7 @@ entries_give options i es rest h =
           let lines_are : entry_lines options es ≡ map entry_line es ++ line [] ∷ [] = cond-true options.comments _ _ y in
           let j : ℕ = indent_after_all i (map entry_line es) in
           let last : Gives true (lines_bytes w j (line [] ∷ []) ++ rest) [] rest =
-          skipped_give w j ([] ∷ []) rest (All-cons IsSkipped [] [] empty_skipped (All-nil IsSkipped)) in
+          skipped_give w j ([] ∷ []) rest (All-cons IsTrailing [] [] no_trailing (All-nil IsTrailing)) in
           let first = lines_give w i es (lines_bytes w j (line [] ∷ []) ++ rest) h in
           let both = gives_then true _ (lines_bytes w j (line [] ∷ []) ++ rest) rest (map (λ e. e.0) es) [] first last in
           let numbers : map (λ e. e.0) es ++ [] ≡ map (λ e. e.0) es = append-nil (map (λ e. e.0) es) in
@@ -130,9 +133,6 @@ state_skipped n h = (
   or_right (length (codes "// State " ++ decimal n) == 0) _ refl,
 )
 
-no_trailing : IsTrailing []
-no_trailing = record { blanks = 0; comment = []; is = refl; skipped = empty_skipped }
-
 -- entries with their comments
 commented_fits : (ns : List ℤ) (cs : List (List ℕ)) → All (FitsSigned w32) ns → All IsTrailing cs → All Fits (commented ns cs)
 commented_fits [] cs f g = λ k d lt. absurd (omega arith)
@@ -157,10 +157,10 @@ notes_lines options note = elim (cases_Bool options.comments) [
   | inr n ↦ cond-false options.comments _ _ n ∙ ap (map line) (sym (cond-false options.comments note.lines [] n))
 ]
 
-notes_skipped : (options : Options) (note : Note) → All IsSkipped note.lines → All IsSkipped (notes_of options note)
+notes_skipped : (options : Options) (note : Note) → All IsTrailing note.lines → All IsTrailing (notes_of options note)
 notes_skipped options note h = elim (cases_Bool options.comments) [
-  | inl y ↦ subst (All IsSkipped) (sym (cond-true options.comments note.lines [] y)) h
-  | inr n ↦ subst (All IsSkipped) (sym (cond-false options.comments note.lines [] n)) (λ k d lt. absurd (omega arith))
+  | inl y ↦ subst (All IsTrailing) (sym (cond-true options.comments note.lines [] y)) h
+  | inr n ↦ subst (All IsTrailing) (sym (cond-false options.comments note.lines [] n)) (λ k d lt. absurd (omega arith))
 ]
 
 one_row : (options : Options) (i state : ℕ) (ns : List ℤ) (note : Note) (rest : List ℕ) → state < 2 ^ 64 → All (FitsSigned w32) ns → IsNote note →
@@ -174,7 +174,7 @@ one_row options i state ns note rest s f g =
     let lines_are : row_lines options state ns note ≡ map line fronts ++ entry_lines options es =
     ap (λ x. line (codes "// State " ++ decimal state) ∷ (x ++ entry_lines options es)) (notes_lines options note) in
     let first : Gives true (lines_bytes w i (map line fronts) ++ mid) [] mid =
-    skipped_give w i fronts mid (All-cons IsSkipped (codes "// State " ++ decimal state) (notes_of options note) (state_skipped state s) (notes_skipped options note g.lines)) in
+    skipped_give w i fronts mid (All-cons IsTrailing (codes "// State " ++ decimal state) (notes_of options note) (skipped_trails (codes "// State " ++ decimal state) (state_skipped state s)) (notes_skipped options note g.lines)) in
     let last : Gives true mid (map (λ e. e.0) es) rest = entries_give options j es rest (commented_fits ns note.comments f g.comments) in
     let both = gives_then true (lines_bytes w i (map line fronts) ++ mid) mid rest [] (map (λ e. e.0) es) first last in
     subst (λ x. Gives true (lines_bytes w i x ++ rest) ns rest) (sym lines_are)

@@ -15,8 +15,8 @@ use Rattle.lp_program.specs.Printed.{lines}
 use Rattle.lp_program.specs.Reads.{TakesLine, ReadsAs}
 use Rattle.lp_program.specs.TableRows.{table_lines}
 use Rattle.lp_program.specs.Trees.{Note, whole}
-use Rattle.lp_laws.specs.LineTexts.{Counts, IsSkipped, text_in}
-use Rattle.lp_laws.specs.WellFormed.{IsUseText, IsCodeText, IsNote, IsWellFormed}
+use Rattle.lp_laws.specs.LineTexts.{Counts, text_in}
+use Rattle.lp_laws.specs.WellFormed.{IsUseText, IsCodeText, IsTrailing, IsNote, IsWellFormed}
 use Rattle.lp_repr.specs.NormalCode.{norm_of}
 use Rattle.lp_laws.specs.AsRead.{code_read, IsRead}
 use Rattle.lp_laws.specs.Levels.{is_level, never_stays}
@@ -25,9 +25,9 @@ use Rattle.lp_laws.specs.Levels.{is_level, never_stays}
 abbrev pub LinesComeBack : Type 0
 LinesComeBack = (whitespace : Bool) (indent : ℕ) (line : Line) (rest : List ℕ) → Counts (text_in line) → TakesLine (text_in line) (line_bytes whitespace indent line ++ rest) rest
 
--- and one that is empty or a comment is passed over
+-- and one that is blanks, and behind them nothing or a comment, is passed over
 abbrev pub OthersDont : Type 0
-OthersDont = (whitespace : Bool) (indent : ℕ) (line : Line) (rest : List ℕ) → IsSkipped (text_in line) → settled (line_bytes whitespace indent line ++ rest) ≡ settled rest
+OthersDont = (whitespace : Bool) (indent : ℕ) (line : Line) (rest : List ℕ) → IsTrailing (text_in line) → settled (line_bytes whitespace indent line ++ rest) ≡ settled rest
 
 -- the rows of a table, in front of blanks and a `]`, are read as its numbers: with comments and without, wherever the rows end
 abbrev pub TablesComeBack : Type 0

@@ -57,9 +57,9 @@ pub record IsTrailing (text : List ℕ) : Type 0 where
   pub is : text ≡ replicate blanks 32 ++ comment
   pub skipped : IsSkipped comment
 
--- comment lines, and what stands after the entries of a row
+-- comment lines, which may begin with blanks, and what stands after the entries of a row
 pub record IsNote (note : Note) : Type 0 where
-  pub lines : All IsSkipped note.lines
+  pub lines : All IsTrailing note.lines
   pub comments : All IsTrailing note.comments
 
 -- none of its comment lines ends with an opening bracket, so they leave the indent as it was

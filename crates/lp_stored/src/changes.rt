@@ -5,6 +5,9 @@
 //! - `no starts`; `all back ends`: the code of all back ends is asked for;
 //! - `nonterminal NAME`: a further one, without productions; `again NAME`: its first production stands twice;
 //! - `code N CODE`: the code of a user's action;
+//! - `prefix TEXT`, `start NAME`: the prefix, and the name of the first start;
+//! - `pattern NAME TEXT`: the pattern of a terminal in quotes, or of `!`, with `_` for each hole;
+//! - `location NAME`, `token NAME`: a type of one name; `visibility NAME PATH`: that of a nonterminal, of one name;
 //! - `regex TEXT`, `skip TEXT`: a regular expression of the tokens, and one whose matches are skipped.
 //!
 //! In the lists of states, one per start: `no lists`; `list NAME`: a further one, of no states.
@@ -20,10 +23,10 @@
 
 use crate::cases::number;
 use lp_plain::{cut_file, lowered_of, tables_of};
-use lp_repr::parse_tree::Visibility;
+use lp_repr::parse_tree::{Path, Visibility};
 use lp_repr::repr::{
-    ActionFnDefnKind, Grammar, InternToken, LrCodeGeneration, MatchEntry, NonterminalData,
-    NonterminalString, TypeRepr,
+    ActionFnDefnKind, Grammar, InternToken, LrCodeGeneration, MatchEntry, NominalTypeRepr,
+    NonterminalData, NonterminalString, TerminalString, TokenPattern, TypeRepr,
 };
 use lp_repr::{Item, Items, Lr1State, StartStates, Text, Token};
 use std::alloc::{AllocError, Global};
@@ -61,6 +64,9 @@ fn change(alloc: Global, example: &mut Example, line: &str) -> Result<(), AllocE
         "all" | "nonterminal" | "again" | "code" | "regex" | "skip" => {
             change_grammar(alloc, &mut example.grammar, word, rest)?
         }
+        "prefix" | "start" | "pattern" | "location" | "token" | "visibility" => {
+            change_text(alloc, &mut example.grammar, word, rest)?
+        }
         _ => {
             if let Some(table) = example.tables.get_mut(0) {
                 change_states(alloc, &mut table.states.0, word, rest)?;
@@ -96,6 +102,116 @@ fn change_grammar(
         "code" => recode(alloc, grammar, rest)?,
         _ => add_token(alloc, grammar, rest, word == "skip")?,
     }
+    Ok(())
+}
+
+/// Changes a text of the grammar.
+fn change_text(
+    alloc: Global,
+    grammar: &mut Grammar,
+    word: &str,
+    rest: &str,
+) -> Result<(), AllocError> {
+    match word {
+        "prefix" => grammar.prefix = Text::from_str(alloc, rest)?,
+        "start" => rename_start(alloc, grammar, rest)?,
+        "location" => grammar.types.loc = Some(type_of(alloc, rest)?),
+        "token" => grammar.types.token = type_of(alloc, rest)?,
+        "visibility" => publish(alloc, grammar, rest)?,
+        _ => match_by(alloc, grammar, rest)?,
+    }
+    Ok(())
+}
+
+/// A path of one name.
+fn path_of(alloc: Global, name: &str) -> Result<Path, AllocError> {
+    let mut ids = Vec::new(alloc);
+    ids.push(Text::from_str(alloc, name)?)?;
+    Ok(Path {
+        absolute: false,
+        ids: Items(ids),
+    })
+}
+
+fn type_of(alloc: Global, name: &str) -> Result<TypeRepr, AllocError> {
+    Ok(TypeRepr::Nominal(NominalTypeRepr {
+        path: path_of(alloc, name)?,
+        types: Vec::new(alloc),
+    }))
+}
+
+/// Makes a nonterminal public in a path of one name.
+fn publish(alloc: Global, grammar: &mut Grammar, rest: &str) -> Result<(), AllocError> {
+    let (name, path) = rest.split_once(' ').unwrap_or((rest, ""));
+    let name = named(alloc, name)?;
+    let Some(data) = grammar.nonterminals.get(&name) else {
+        return Ok(());
+    };
+    let data = NonterminalData {
+        visibility: Visibility::Pub(Some(path_of(alloc, path)?)),
+        productions: Items(data.productions.0.clone()?),
+    };
+    grammar.nonterminals.insert(name, data)?;
+    Ok(())
+}
+
+/// Gives the start of one start, and its productions, another name.
+fn rename_start(alloc: Global, grammar: &mut Grammar, name: &str) -> Result<(), AllocError> {
+    let Some((public, start)) = grammar.start_nonterminals.pop_first() else {
+        return Ok(());
+    };
+    if let Some(data) = grammar.nonterminals.remove(&start) {
+        let data = renamed(alloc, data, name)?;
+        grammar.nonterminals.insert(named(alloc, name)?, data)?;
+    }
+    if let Some(ty) = grammar.types.nonterminals.remove(&start) {
+        grammar.types.nonterminals.insert(named(alloc, name)?, ty)?;
+    }
+    grammar
+        .start_nonterminals
+        .insert(public, named(alloc, name)?)?;
+    Ok(())
+}
+
+/// The productions of a nonterminal under another name.
+fn renamed(
+    alloc: Global,
+    data: NonterminalData,
+    name: &str,
+) -> Result<NonterminalData, AllocError> {
+    let NonterminalData {
+        visibility,
+        mut productions,
+    } = data;
+    for production in &mut productions.0 {
+        production.nonterminal = named(alloc, name)?;
+    }
+    Ok(NonterminalData {
+        visibility,
+        productions,
+    })
+}
+
+/// Changes the pattern of a terminal.
+fn match_by(alloc: Global, grammar: &mut Grammar, rest: &str) -> Result<(), AllocError> {
+    let (name, text) = rest.split_once(' ').unwrap_or((rest, ""));
+    let terminal = match name {
+        "!" => TerminalString::Error,
+        name => TerminalString::Quoted(Text::from_str(alloc, name)?),
+    };
+    let mut pieces = Vec::new(alloc);
+    for piece in text.split('_') {
+        pieces.push(Text::from_str(alloc, piece)?)?;
+    }
+    let mut holes = Vec::new(alloc);
+    for _hole in 1..pieces.len() {
+        holes.push(TypeRepr::Tuple(Vec::new(alloc)))?;
+    }
+    let pattern = TokenPattern {
+        pieces: Items(pieces),
+        holes: Items(holes),
+    };
+    grammar.conversions.insert(terminal, pattern)?;
     Ok(())
 }
 

@@ -12,7 +12,8 @@ use Rattle.std.proofs.lemmas.Bool.{ltb-false}
 use Rattle.std.proofs.lemmas.List.{length-map, map-append}
 use Rattle.std.proofs.lemmas.List.Concat.{length-flat_map}
 use Rattle.std.proofs.lemmas.List.Sums.{sum_by-append, sum_by-cons}
-use Rattle.lp_emit.specs.Causes.{Refuses, greatest_count, greatest_of}
+use Rattle.lp_emit.specs.Causes.{Refuses}
+use Rattle.lp_emitted.specs.Emittable.{greatest_count, greatest_of}
 use Rattle.lp_emit.specs.declared.errors.EmitError.TheVariants.{TooMany}
 use Rattle.lp_lower.proofs.Combining.{length-choices}
 use Rattle.lp_lower.specs.ActionNumbers.{action_count, actions_in, first_action}

@@ -5,7 +5,8 @@ use Rattle.std.proofs.lemmas.Option.{slice_get_cases, slice_get_past}
 use Rattle.std.proofs.lemmas.Slice.Eq.{slice_eq-Decides}
 use Rattle.std.specs.BTreeMap.{keys}
 use Rattle.lp_emit.specs.Causes.{Refuses}
-use Rattle.lp_emit.specs.Lists.{HasItsList, FailsByTables, IsListed, IsTabled, IsTableFailure}
+use Rattle.lp_emit.specs.Lists.{FailsByTables, IsTableFailure}
+use Rattle.lp_emitted.specs.Emittable.{HasItsList, IsListed, IsTabled}
 use Rattle.lp_emit.specs.declared.errors.EmitError.TheVariants.{BadTables}
 use Rattle.lp_repr.specs.Names.{same_nonterminal}
 use Rattle.lp_repr.specs.ValidTables.{IsValidTables}

@@ -1,5 +1,5 @@
 use Rattle.std.proofs.Common.{ℕ, ◌<◌}
-use Rattle.lp_emit.specs.Lists.{IsTabled}
+use Rattle.lp_emitted.specs.Emittable.{IsTabled}
 use Rattle.lp_emit.proofs.checks.check_lists.Given as goal
 
 abbrev pub invariant-loop-start : goal.invariant-loop-start

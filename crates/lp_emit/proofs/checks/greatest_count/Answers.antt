@@ -1,6 +1,6 @@
 use Rattle.std.proofs.Common.{◌∙◌, ap}
 use Rattle.std.proofs.lemmas.List.{take_all}
-use Rattle.lp_emit.specs.Causes.{greatest_of}
+use Rattle.lp_emitted.specs.Emittable.{greatest_of}
 use Rattle.lp_emit.proofs.checks.greatest_count.Goals as goal
 
 pub returns : goal.returns

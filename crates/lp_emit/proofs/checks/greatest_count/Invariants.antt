@@ -1,5 +1,5 @@
 use Rattle.std.proofs.Common.{◌≡◌, take}
-use Rattle.lp_emit.specs.Causes.{greatest_of}
+use Rattle.lp_emitted.specs.Emittable.{greatest_of}
 use Rattle.lp_emit.proofs.checks.greatest_count.Given as goal
 
 abbrev pub invariant-loop-list : goal.invariant-loop-list

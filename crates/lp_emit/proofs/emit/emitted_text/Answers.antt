@@ -1,7 +1,14 @@
-use Rattle.std.proofs.Common.{string_bytes}
-use Rattle.lp_emit.proofs.Programs.{emission}
+use Rattle.std.proofs.Common.{rules, string_bytes}
+use Rattle.lp_emit.specs.Causes.{Refuses}
+use Rattle.lp_emit.proofs.Emissions.{emission, refuses}
 use Rattle.lp_emit.proofs.emit.emitted_text.Goals as goal
+
+pub returns-in_err-check_fit-clause-cause : goal.returns-in_err-check_fit-clause-cause
+returns-in_err-check_fit-clause-cause c =
+    let refused : Refuses c.args.grammar.now c.args.states.now c.in_err-check_fit.field-0.0 =
+    refuses c.args.grammar.now c.args.states.now c.in_ok-program.program c.in_err-check_fit.field-0.0 c.in_ok-check.ensures c.in_ok-program.ensures c.in_err-check_fit.ensures in
+    search rules
 
 pub returns-clause-text : goal.returns-clause-text
 returns-clause-text c =
-    emission c.args.grammar.now c.args.states.now c.args.options.now (λ t. string_bytes t) c.printed.result c.in_ok-program.program c.in_ok-program.ensures c.printed.ensures.text
+    emission c.args.grammar.now c.args.states.now c.args.options.now (λ t. string_bytes t) c.printed.result c.in_ok-program.program c.in_ok-check.ensures c.in_ok-program.ensures c.in_ok-check_fit.ensures c.printed.ensures.text

@@ -1,0 +1,47 @@
+-- A text of what was built, and why there is none.
+use Rattle.std.proofs.Common.{◌≡◌, List, ℕ, Result, Ok, Err, IfOk, inr, subst, sym}
+use Rattle.lp_program.specs.Reads.{ReadsAs}
+use Rattle.lp_repr.specs.declared.lr1.StartStates.{StartStates}
+use Rattle.lp_repr.specs.declared.repr.Grammar.{Grammar}
+use Rattle.lp_tree.specs.declared.tree.Program.{Program}
+use Rattle.lp_write.specs.declared.rust.Options.{Options}
+use Rattle.lp_assembly.specs.Built.{IsBuilt}
+use Rattle.lp_fitting.specs.Fitting.{IsFitting}
+use Rattle.lp_laws.specs.Laws.{text_of}
+use Rattle.lp_emitted.specs.Emittable.{IsEmittable}
+use Rattle.lp_emitted.proofs.Fitting.{emitted_reads_back}
+use Rattle.lp_emit.specs.Causes.{MayBeEmitted, Refuses}
+use Rattle.lp_emit.specs.Misfits.{RefusesProgram}
+use Rattle.lp_emit.specs.Texts.{IsEmission}
+use Rattle.lp_emit.specs.declared.errors.EmitError.{EmitError}
+use Rattle.lp_emit.specs.declared.errors.EmitError.TheVariants.{NoStart, Unsupported, BadGrammar, RecoveryInAscent, NameClash, TooMany, BadTables, BadText, WriteFault, Memory}
+
+-- what may be emitted, whatever code is asked for
+pub emittable : (g : Grammar) (states : List StartStates) → MayBeEmitted g states → IsEmittable g states
+emittable g states m = record { start = m.buildable.sound.0.0; valid = m.buildable.sound.1; counts = m.buildable.counts; tabled = m.tabled; texts = m.texts }
+
+pub emission :
+    {S E : Type 0} (g : Grammar) (states : List StartStates) (options : Options) (bytes : S → List ℕ) (result : Result S E) (program : Program) →
+    MayBeEmitted g states → IsBuilt g states program → IsFitting program → IfOk result (λ t. bytes t ≡ text_of options program) →
+    IfOk result (λ t. IsEmission g states options (bytes t))
+emission g states options bytes (Ok t) program may is fits same = record {
+  program = program;
+  built = is;
+  fitting = fits;
+  printed = same;
+  reads = λ read back. subst (λ text. ReadsAs text read) (sym same) (emitted_reads_back g states program options read (emittable g states may) is fits back);
+}
+emission g states options bytes (Err e) program may is fits same = same
+
+-- what is refused of the program that is built is refused of the grammar and its states
+pub refuses : (g : Grammar) (states : List StartStates) (program : Program) (error : EmitError) → MayBeEmitted g states → IsBuilt g states program → RefusesProgram g program error → Refuses g states error
+refuses g states program (BadText place byte) may is r = (may.buildable, may.tabled, inr (may.texts, (program, is, r.0, r.1, r.2)))
+refuses g states program Memory may is r = tt
+refuses g states program NoStart may is r = absurd r
+refuses g states program Unsupported may is r = absurd r
+refuses g states program (BadGrammar rule place) may is r = absurd r
+refuses g states program RecoveryInAscent may is r = absurd r
+refuses g states program (NameClash first second) may is r = absurd r
+refuses g states program (TooMany count) may is r = absurd r
+refuses g states program (BadTables start state rule) may is r = absurd r
+refuses g states program WriteFault may is r = absurd r

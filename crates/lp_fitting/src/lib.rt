@@ -1,0 +1,9 @@
+//! Whether the texts of a program tree may stand where they do, so that its printed text reads back
+//! as it.
+#![tactic(auto)]
+
+mod fills;
+mod fitting;
+mod notes;
+
+pub use fitting::is_fitting;
