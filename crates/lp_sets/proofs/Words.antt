@@ -1,8 +1,8 @@
 -- Words of 64 bits, and the number that they spell.
-use Rattle.std.proofs.Common.{◌≡◌, ℕ, zero, suc, ◌+◌, ◌-◌, ◌*◌, ◌/◌, ◌%◌, ◌^◌, ◌<◌, ◌≤◌, List, [], ◌∷◌, ◌++◌, length, get_or, set, take, refl, sym, ap, ◌∙◌, ⊎_elim, add-zero, arith, bit_and, bit_or}
+use Rattle.std.proofs.Common.{◌≡◌, ℕ, zero, suc, ◌+◌, ◌-◌, ◌*◌, ◌/◌, ◌%◌, ◌^◌, ◌<◌, ◌≤◌, inl, inr, List, [], ◌∷◌, ◌++◌, length, get_or, set, take, refl, sym, ap, ◌∙◌, ⊎_elim, add-zero, arith, bit_and, bit_or}
 use Rattle.std.proofs.lemmas.Bool.{cases_lt}
 use Rattle.std.proofs.Math.Nat.{mul_assoc}
-use Rattle.std.proofs.lemmas.Nat.{pow-add, pow_pos, or_block, one_shl, shr-shr, shr_split, mod_below}
+use Rattle.std.proofs.lemmas.Nat.{le_or_l, pow-add, pow_pos, or_block, one_shl, shr-shr, shr_split, mod_below}
 use Rattle.std.proofs.lemmas.List.{take_more, length-take-le, get_or_past}
 use Rattle.std.proofs.lemmas.Nat.Bits.{bit_at_or, bit_at_and, bit_at_cat_low, bit_at_cat_high, bit_at-zero, bit_at_above, same_from_bits, same_from_bits_below}
 use Rattle.std.specs.Int.{bit_at}
@@ -46,6 +46,19 @@ spelled-set (x ∷ xs) zero w l v h =
     ∙ ap (bit_or (spelled xs * 2 ^ 64 + x)) (omega (arith, word_here w))
 spelled-set (x ∷ xs) (suc i) w l v h =
     ap (λ (k : ℕ). k * 2 ^ 64 + x) (spelled-set xs i w (omega arith) v h.1) ∙ or_up (spelled xs) w i x h.0
+
+-- a larger word
+pub spelled-larger : (xs : List ℕ) (i w : ℕ) → i < length xs → get_or xs i 0 < w → spelled xs < spelled (set xs i w)
+spelled-larger [] i w l h = absurd (omega arith)
+spelled-larger (x ∷ xs) zero w l h = omega (arith, h)
+spelled-larger (x ∷ xs) (suc i) w l h = omega (arith, spelled-larger xs i w (omega arith) h)
+
+-- bits added to a number that is not the same
+pub or_larger : (a b : ℕ) → (bit_or a b ≡ a → ⊥) → a < bit_or a b
+or_larger a b n = elim (cases_lt a (bit_or a b)) [
+  | inl l ↦ l
+  | inr g ↦ absurd (n (omega (arith, le_or_l a b, g)))
+]
 
 -- a bit of one word
 pub spelled-at : (xs : List ℕ) (k i : ℕ) → i < 64 → AreWords xs → bit_at (spelled xs) (64 * k + i) ≡ bit_at (get_or xs k 0) i

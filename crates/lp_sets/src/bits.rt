@@ -1,6 +1,6 @@
 //! Sets of small numbers, by their bits.
 
-ghost use Rattle.std.specs.Prelude.{◌≡◌, ℕ, ◌↔◌, ◌+◌, ◌*◌, ◌/◌, ◌%◌, ◌^◌, ◌<◌, IsTrue, IfOk, OnOk, false, bit_and, bit_or, vec_len, AllPairs, Contains};
+ghost use Rattle.std.specs.Prelude.{◌≡◌, ℕ, ◌↔◌, ◌+◌, ◌*◌, ◌/◌, ◌%◌, ◌^◌, ◌<◌, IsTrue, IfOk, OnOk, true, false, bit_and, bit_or, vec_len, AllPairs, Contains};
 ghost use Rattle.std.specs.Int.{bit_at};
 ghost use Rattle.lp_sets.specs.Members.{Has, has, spelled, AreNumberedWords, ListsBelow};
 
@@ -60,6 +60,7 @@ impl Bits {
     pub fn insert(&mut self, number: usize) -> Result<bool, AllocError>
         ensures added { OnOk result (self.new ≡ bit_or self.old (2 ^ number)) }
         ensures unchanged { IfOk result (λ grew. grew ≡ false → self.new ≡ self.old) }
+        ensures changed { IfOk result (λ grew. grew ≡ true → self.new ≡ self.old → ⊥) }
     {
         self.add_word(number / WORD, 1u64 << (number % WORD))
     }
@@ -68,6 +69,7 @@ impl Bits {
     pub fn union(&mut self, other: &Bits) -> Result<bool, AllocError>
         ensures added { OnOk result (self.new ≡ bit_or self.old other.now) }
         ensures unchanged { IfOk result (λ grew. grew ≡ false → self.new ≡ self.old) }
+        ensures changed { IfOk result (λ grew. grew ≡ true → self.new ≡ self.old → ⊥) }
     {
         let mut grew = false;
         for (place, word) in other.words.iter().enumerate() {
@@ -120,6 +122,7 @@ impl Bits {
         requires { place < 2 ^ 58 }
         ensures added { OnOk result (self.new ≡ bit_or self.old (word * 2 ^ (64 * place))) }
         ensures unchanged { IfOk result (λ grew. grew ≡ false → self.new ≡ self.old) }
+        ensures larger { IfOk result (λ grew. grew ≡ true → self.old < self.new) }
     {
         reach(&mut self.words, place)?;
         let old = self.words[place];

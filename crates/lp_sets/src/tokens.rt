@@ -1,6 +1,6 @@
 //! Sets of tokens.
 
-ghost use Rattle.std.specs.Prelude.{◌≡◌, ◌⊎◌, IfOk, OnOk, false};
+ghost use Rattle.std.specs.Prelude.{◌≡◌, ◌⊎◌, IfOk, OnOk, true, false};
 ghost use Rattle.lp_repr.specs.declared.lr1.Token.{Token};
 ghost use Rattle.lp_sets.specs.TokenSets.{HasToken, ListsTokens, union_of, common_of};
 
@@ -30,6 +30,7 @@ impl TokenSet {
     pub fn union(&mut self, other: &TokenSet) -> Result<bool, AllocError>
         ensures added { OnOk result (self.new ≡ union_of self.old other.now) }
         ensures unchanged { IfOk result (λ grew. grew ≡ false → self.new ≡ self.old) }
+        ensures changed { IfOk result (λ grew. grew ≡ true → self.new ≡ self.old → ⊥) }
     {
         let grew = self.terminals.union(&other.terminals)?;
         let ended = self.end;
