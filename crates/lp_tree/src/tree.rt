@@ -48,7 +48,9 @@ pub struct Program<'t> {
 
 impl<'t> Program<'t> {
     /// The prefix of the names that the text makes itself.
-    pub fn prefix(&self) -> &str {
+    pub fn prefix(&self) -> &str
+        ensures { result.now ≡ self.now.prefix }
+    {
         self.prefix.as_str()
     }
 }
