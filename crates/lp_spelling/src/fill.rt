@@ -19,9 +19,9 @@ pub(crate) fn is_same(text: &[u8], other: &[u8]) -> bool
     text == other
 }
 
-/// Whether a text holds another.
+/// Whether a text holds another; each holds the empty text.
 #[tactic(auto, unfolding(crate::specs::Fillings::holds))]
-fn holds(sought: &[u8], text: &[u8]) -> bool
+pub fn holds(sought: &[u8], text: &[u8]) -> bool
     ensures { result ≡ fillings.holds sought.now text.now }
 {
     sought.is_empty() || place_in(text, sought) < text.len()

@@ -9,4 +9,4 @@ pub mod line;
 pub mod rows;
 pub mod spell;
 
-pub use fill::may_fill;
+pub use fill::{holds, may_fill};
