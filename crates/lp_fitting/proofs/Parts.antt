@@ -13,6 +13,7 @@ use Rattle.lp_spelling.specs.LineReading.{kind_of}
 use Rattle.lp_program.specs.Trees.{note}
 use Rattle.lp_laws.specs.LineTexts.{ends_open}
 use Rattle.lp_laws.specs.WellFormed.{HolesFill, IsNote, IsSteady, IsTrailing}
+use Rattle.lp_found.specs.Parted.{IsParted}
 use Rattle.lp_fitting.specs.Fitting.{HolesFit, IsFitting, MayStand}
 
 -- a note whose lines and comments are such
@@ -55,22 +56,29 @@ all_fill prefix kinds holes n kinds_in holes_in below = (
 )
 
 -- a whole part
+abbrev pub AreFilling : List ℕ → Entry → Type 0
+AreFilling prefix e = HolesFill prefix (holes_of e.part) e.holes.items × All IsUtf8 e.holes.items
+
 pub part_fails : (prefix : List ℕ) (e : Entry) → (IsTrue false ↔ All IsPlain e.notes.items) → IsTrue false ↔ HolesFit prefix e
 part_fails prefix e told = (
   λ t. absurd (false≢true t),
   λ w. told.1 (λ k d lt. (unmapped IsNote note e.notes.items w.notes k d lt, unmapped IsSteady note e.notes.items w.steady k d lt)),
 )
 
-pub part_told : {E : Type 0} (prefix : List ℕ) (e : Entry) (q : Result Bool E) → All IsPlain e.notes.items → IfOk q (λ b. IsTrue b ↔ (HolesFill prefix (holes_of e.part) e.holes.items × All IsUtf8 e.holes.items)) → IfOk q (λ b. IsTrue b ↔ HolesFit prefix e)
-part_told prefix e (Err x) notes told = tt
-part_told prefix e (Ok b) notes told = (
+pub unfilled : (prefix : List ℕ) (e : Entry) → (IsTrue false ↔ AreFilling prefix e) → IsTrue false ↔ HolesFit prefix e
+unfilled prefix e told = (λ t. absurd (false≢true t), λ w. told.1 (w.fills, w.utf8))
+
+pub part_told : {E : Type 0} (prefix : List ℕ) (e : Entry) (q : Result Bool E) → All IsPlain e.notes.items → AreFilling prefix e → IfOk q (λ b. IsTrue b ↔ IsParted prefix e.part e.holes.items) → IfOk q (λ b. IsTrue b ↔ HolesFit prefix e)
+part_told prefix e (Err x) notes filling told = tt
+part_told prefix e (Ok b) notes filling told = (
   λ t. record {
-    fills = (told.0 t).0;
-    utf8 = (told.0 t).1;
+    fills = filling.0;
+    utf8 = filling.1;
+    parted = told.0 t;
     notes = All-map IsNote note e.notes.items (All-weaker IsPlain (λ n. IsNote (note n)) (λ x p. p.0) e.notes.items notes);
     steady = All-map IsSteady note e.notes.items (All-weaker IsPlain (λ n. IsSteady (note n)) (λ x p. p.1) e.notes.items notes);
   },
-  λ w. told.1 (w.fills, w.utf8),
+  λ w. told.1 w.parted,
 )
 
 -- a whole program

@@ -7,16 +7,18 @@ use Rattle.lp_tree.specs.declared.tree.Entry.{Entry}
 use Rattle.lp_tree.specs.declared.tree.Program.{Program}
 use Rattle.lp_spelling.specs.Fillings.{Fits}
 use Rattle.lp_program.specs.Trees.{note}
+use Rattle.lp_found.specs.Parted.{IsParted}
 use Rattle.lp_laws.specs.WellFormed.{HolesFill, IsNote, IsSteady, is_pattern}
 
 -- a text that may stand in a hole, and is not empty where it is a pattern
 abbrev pub MayStand : List ℕ → Kind → List ℕ → Type 0
 MayStand prefix kind text = Fits prefix kind text × (is_pattern kind ≡ true → 0 < length text)
 
--- the holes of a part hold what they may, and its notes are comments, none of which ends with an opening bracket
+-- the holes of a part hold what they may and are parted, and its notes are comments, none of which ends with an opening bracket
 pub record HolesFit (prefix : List ℕ) (e : Entry) : Type 0 where
   pub fills : HolesFill prefix (holes_of e.part) e.holes.items
   pub utf8 : All IsUtf8 e.holes.items
+  pub parted : IsParted prefix e.part e.holes.items
   pub notes : All IsNote (map note e.notes.items)
   pub steady : All IsSteady (map note e.notes.items)
 

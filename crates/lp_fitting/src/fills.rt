@@ -30,7 +30,7 @@ fn may_stand(alloc: Global, prefix: &str, kind: Kind, text: &str) -> Result<bool
 }
 
 /// What a hole holds: nothing, where there are fewer.
-fn hole_at<'h>(holes: &'h [Piece<'_>], k: usize) -> &'h str
+pub(crate) fn hole_at<'h>(holes: &'h [Piece<'_>], k: usize) -> &'h str
     ensures { result.now ≡ get_or holes.now k [] }
 {
     match holes.get(k) {

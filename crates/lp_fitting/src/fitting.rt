@@ -5,6 +5,7 @@ ghost use Rattle.lp_fitting.specs.Fitting.{HolesFit, IsFitting};
 
 use crate::fills::holes_fill;
 use crate::notes::are_notes;
+use crate::parted::is_parted;
 use lp_form::holes;
 use lp_tree::{Entry, Program};
 use std::alloc::{AllocError, Global};
@@ -16,12 +17,15 @@ fn is_entry_fitting(alloc: Global, prefix: &str, entry: &Entry<'_>) -> Result<bo
     if !are_notes(&entry.notes) {
         return Ok(false);
     }
-    holes_fill(alloc, prefix, holes(entry.part), &entry.holes)
+    if !holes_fill(alloc, prefix, holes(entry.part), &entry.holes)? {
+        return Ok(false);
+    }
+    is_parted(alloc, prefix, entry.part, &entry.holes)
 }
 
 /// Whether the texts of a program may stand where they do: its prefix isn't empty, each hole of a
-/// part holds what its kind allows, with no pattern empty, and each note is comments, of which no
-/// line ends with an opening bracket. It is told whatever stands below what, and doesn't look at the
+/// part holds what its kind allows, with no pattern empty, they are found again in the lines that
+/// they are printed on, and each note is comments, of which no line ends with an opening bracket. It is told whatever stands below what, and doesn't look at the
 /// uses, the user code and the tables. An `Err` says that memory ran out.
 pub fn is_fitting(alloc: Global, program: &Program<'_>) -> Result<bool, AllocError>
     ensures { IfOk result (λ b. IsTrue b ↔ IsFitting program.now) }

@@ -5,5 +5,6 @@
 mod fills;
 mod fitting;
 mod notes;
+mod parted;
 
 pub use fitting::is_fitting;
