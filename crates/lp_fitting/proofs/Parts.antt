@@ -65,8 +65,8 @@ part_fails prefix e told = (
   λ w. told.1 (λ k d lt. (unmapped IsNote note e.notes.items w.notes k d lt, unmapped IsSteady note e.notes.items w.steady k d lt)),
 )
 
-pub unfilled : (prefix : List ℕ) (e : Entry) → (IsTrue false ↔ AreFilling prefix e) → IsTrue false ↔ HolesFit prefix e
-unfilled prefix e told = (λ t. absurd (false≢true t), λ w. told.1 (w.fills, w.utf8))
+pub unfilled : (prefix : List ℕ) (e : Entry) (r : Bool) → r ≡ false → (IsTrue r ↔ AreFilling prefix e) → IsTrue false ↔ HolesFit prefix e
+unfilled prefix e r fails told = (λ t. absurd (false≢true t), λ w. absurd (false≢true (sym fails ∙ told.1 (w.fills, w.utf8))))
 
 pub part_told : {E : Type 0} (prefix : List ℕ) (e : Entry) (q : Result Bool E) → All IsPlain e.notes.items → AreFilling prefix e → IfOk q (λ b. IsTrue b ↔ IsParted prefix e.part e.holes.items) → IfOk q (λ b. IsTrue b ↔ HolesFit prefix e)
 part_told prefix e (Err x) notes filling told = tt

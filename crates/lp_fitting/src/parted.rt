@@ -1,7 +1,7 @@
 //! Holes that are found again in the lines that they are printed on.
 
 ghost use Rattle.std.specs.Prelude.{◌↔◌, IsTrue, IfOk};
-ghost use Rattle.lp_found.specs.Parted.{HoldsNo, IsParted};
+ghost use Rattle.lp_found.specs.Parted.{BeginsNo, HoldsNo, IsParted};
 
 use crate::fills::hole_at;
 use lp_form::Part;
@@ -21,6 +21,13 @@ fn holds_no(
 {
     let sought = format!(in alloc; "{front}{prefix}{behind}")?;
     Ok(!holds(sought.as_bytes(), text.as_bytes()))
+}
+
+/// Whether a text doesn't begin with the prefix.
+fn begins_no(prefix: &str, text: &str) -> bool
+    ensures { IsTrue result ↔ BeginsNo prefix.now text.now }
+{
+    !text.as_bytes().starts_with(prefix.as_bytes())
 }
 
 /// Whether the holes of a part are parted: a type doesn't hold what stands behind it in its line,
@@ -50,7 +57,7 @@ pub(crate) fn is_parted(
             hole_at(holes, 2),
         ),
         Part::Pop => holds_no(alloc, prefix, ",", "Symbol<", hole_at(holes, 1)),
-        Part::Transition => Ok(!hole_at(holes, 3).starts_with(prefix)),
+        Part::Transition => Ok(begins_no(prefix, hole_at(holes, 3))),
         _ => Ok(true),
     }
 }
