@@ -1,0 +1,5 @@
+pub mod Begins
+pub mod Opens
+pub mod Signs
+pub mod ApartTests
+pub mod Laws
