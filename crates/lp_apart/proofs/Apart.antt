@@ -73,7 +73,7 @@ read_line prefix kinds pieces known holes l h f g =
     (subst (λ (x : List ℕ). IsLine prefix kinds pieces x) (sym s.0) (is_line prefix kinds holes pieces (told_fill prefix kinds holes pieces all s.1)), all)
 
 -- the holes of a printed part hold what they may
-abbrev HolesFill : List ℕ → List Kind → List (List ℕ) → Type 0
+abbrev pub HolesFill : List ℕ → List Kind → List (List ℕ) → Type 0
 HolesFill prefix kinds holes = (k : ℕ) → k < length kinds → Fills prefix (kind_of kinds k) (get_or holes k [])
 
 printed_fills : (prefix : List ℕ) (kinds : List Kind) (holes : List (List ℕ)) (slot : Slot) → HolesFill prefix kinds holes → SlotFills prefix kinds holes slot
@@ -126,7 +126,7 @@ unfolding Opens
 part_shown prefix zero p lines h = absurd h
 part_shown prefix (suc depth) p lines h = let f = h.1 in (depth, h.0, f.fills, h.2)
 
-part_begun : (prefix : List ℕ) (depth : ℕ) (p : Part) (lines : Lines) → Begins depth prefix p lines → BegunBy prefix (whole_beginning p) lines
+pub part_begun : (prefix : List ℕ) (depth : ℕ) (p : Part) (lines : Lines) → Begins depth prefix p lines → BegunBy prefix (whole_beginning p) lines
 unfolding Begins
 part_begun prefix zero p lines h = absurd h
 part_begun prefix (suc depth) p lines h = (depth, [], (λ k le lt. absurd (omega arith)), h)

@@ -9,7 +9,7 @@ use Rattle.lp_texts.specs.Brackets.{closes, Leads, leads_none}
 use Rattle.lp_texts.specs.OneLine.{IsOneLine, IsWrong, begins_comment, needs_bracket, is_none_open, begins, is_wrong}
 use Rattle.lp_texts.specs.OneLine.IsWrong.{outside}
 use Rattle.lp_spelling.specs.HoleEnds.{is_digit, is_word, first_at}
-use Rattle.lp_spelling.specs.Fillings.{is_number, holds, is_capture, is_numbered, is_fitting, fits_behind, are_filled, has_shape, line_part, Fits, Fills, is_name, without_front}
+use Rattle.lp_spelling.specs.Fillings.{holds, is_element, is_capture, is_numbered, is_fitting, fits_behind, are_filled, has_shape, line_part, Fits, Fills, is_name, without_front}
 use Rattle.lp_spelling.proofs.Reading.{starts_again}
 use Rattle.lp_found.specs.Found.{are_words}
 use Rattle.lp_found.specs.LineTests.{is_without}
@@ -18,7 +18,7 @@ use Rattle.lp_found.proofs.Places.{passes_at}
 use Rattle.lp_apart.specs.Signs.{Sign, Shows}
 use Rattle.lp_apart.specs.Signs.Sign.{byte, own, filled, unknown}
 use Rattle.lp_apart.specs.ApartTests.{differ, word_signs, breaks_within, has_text, breaks_first, is_refused, is_foreign, is_no_capture, fronts_apart}
-use Rattle.lp_apart.proofs.Digits.{DigitFirst, ranges_digit, number_digit}
+use Rattle.lp_apart.proofs.Digits.{DigitFirst, are_joined_digit, range_digit, number_digit}
 
 -- lists with equal fronts
 heads : (a b : ℕ) (s t : List ℕ) → a ∷ s ≡ b ∷ t → (a ≡ b) × (s ≡ t)
@@ -192,9 +192,9 @@ closer_apart (c ∷ t) rest line b h o e again = closer_wrong c t (ap closes (he
 
 refused_sound : (prefix : List ℕ) (k : Kind) (b : ℕ) (more : Bool) (text rest line : List ℕ) → is_refused k b more ≡ true → Fills prefix k text → text ++ rest ≡ b ∷ line →
     (more ≡ true → rest ≡ b ∷ line → ⊥) → ⊥
-unfolding Fits has_shape line_part
+unfolding Fits has_shape line_part is_element
 refused_sound prefix kind.Number b more text rest line h f e again = digit_apart text rest line b (number_digit text f.1.0) h e
-refused_sound prefix kind.Ranges b more text rest line h f e again = digit_apart text rest line b (ranges_digit prefix text f.1.0) h e
+refused_sound prefix kind.Ranges b more text rest line h f e again = digit_apart text rest line b (are_joined_digit prefix _ (codes " | ") text (λ x r. range_digit x r) f.1.0) h e
 refused_sound prefix kind.Text b more text rest line h f e again =
     let p = and_parts (closes b) more h in
     closer_apart text rest line b p.0 f.1.1 e (again p.1)

@@ -5,3 +5,4 @@ pub mod Showing
 pub mod Fronts
 pub mod Apart
 pub mod Law
+pub mod Ends

@@ -2,4 +2,5 @@ pub mod Begins
 pub mod Opens
 pub mod Signs
 pub mod ApartTests
+pub mod Behind
 pub mod Laws
