@@ -1,6 +1,6 @@
 -- What follows a step, or a part of it, begins no part that may be missing there.
 use Rattle.std.proofs.Common.{◌≡◌, ℕ, ◌<◌, zero, suc, Bool, true, false, ◌&&◌, List, [], ◌∷◌, ◌++◌, length, get_or, refl, sym, ◌∙◌, ap, subst, arith}
-use Rattle.std.specs.List.{list_all}
+use Rattle.std.specs.List.{list_all, AllByRecursion}
 use Rattle.std.proofs.lemmas.Bool.{and_parts}
 use Rattle.lp_form.specs.Classes.{members_of}
 use Rattle.lp_form.specs.Templates.{steps_of, holes_of}
@@ -12,7 +12,8 @@ use Rattle.lp_form.specs.declared.template.Kind.{Kind}
 use Rattle.lp_found.specs.Found.{are_words}
 use Rattle.lp_apart.specs.Begins.{Lines, member}
 use Rattle.lp_apart.specs.ApartTests.{bound, whole_beginning, lines_apart, apart_within}
-use Rattle.lp_apart.specs.Behind.{Place, ended_classes, places, class_tails, BeginNoMember, BeginNone, NoLines, Follow, always, none_begun, place_apart, ends_apart_in, has_apart_ends}
+use Rattle.lp_apart.specs.Behind.{Place, ended_classes, places, class_tails, BeginNoMember, BeginNone, NoLines, Follow}
+use Rattle.lp_apart.specs.EndTests.{always, none_begun, place_apart, steps_apart, has_apart_ends}
 use Rattle.lp_apart.specs.Laws.{EndsSeen, TailsSeen}
 use Rattle.lp_apart.proofs.Apart.{all_at, EndIsSound, HolesFill, part_begun, apart_sound}
 
@@ -38,7 +39,7 @@ classes_none prefix kinds holes steps (c ∷ classes) lines n w f h shown =
     (member_none prefix kinds holes steps c lines n w f p.0 shown, classes_none prefix kinds holes steps classes lines n w f p.1 shown)
 
 -- what is tested of a step
-step_tested : (kinds : List Kind) (front steps : List template.Line) (s : template.Line) → ends_apart_in kinds (front ++ s ∷ steps) ≡ true →
+step_tested : (kinds : List Kind) (front steps : List template.Line) (s : template.Line) → steps_apart kinds (front ++ s ∷ steps) ≡ true →
     (list_all (none_begun kinds steps) (ended_classes s.0) ≡ true) × (list_all (place_apart kinds) (places s.0 steps) ≡ true)
 step_tested kinds [] steps s h =
     let p = and_parts (list_all (none_begun kinds steps) (ended_classes s.0)) _ h in
@@ -49,20 +50,21 @@ step_tested kinds (t ∷ front) steps s h =
 
 part_tested : (p : Part) (front steps : List template.Line) (s : template.Line) → steps_of p ≡ front ++ s ∷ steps →
     (list_all (none_begun (holes_of p) steps) (ended_classes s.0) ≡ true) × (list_all (place_apart (holes_of p)) (places s.0 steps) ≡ true)
-part_tested p front steps s e = step_tested (holes_of p) front steps s (sym (ap (ends_apart_in (holes_of p)) e) ∙ ends_told p)
+part_tested p front steps s e = step_tested (holes_of p) front steps s (sym (ap (steps_apart (holes_of p)) e) ∙ ends_told p)
 
 pub ends_seen : EndsSeen
 ends_seen prefix p holes front steps s lines n w filled e shown =
     let f = filled.fills in
     classes_none prefix (holes_of p) holes steps (ended_classes s.0) lines n w f (part_tested p front steps s e).0 shown
 
-place_at : (f : Place → Bool) (list : List Place) (k : ℕ) (d : Place) → list_all f list ≡ true → k < length list → f (get_or list k d) ≡ true
-place_at f [] k d h lt = absurd (omega arith)
-place_at f (x ∷ list) zero d h lt = (and_parts (f x) (list_all f list) h).0
-place_at f (x ∷ list) (suc k) d h lt = place_at f list k d (and_parts (f x) (list_all f list) h).1 (omega arith)
+places_none : (prefix : List ℕ) (kinds : List Kind) (holes : List (List ℕ)) (all : List Place) (lines : Lines) (n : ℕ) → are_words prefix ≡ true → HolesFill prefix kinds holes → list_all (place_apart kinds) all ≡ true →
+    AllByRecursion (λ place. Follow n prefix holes place.1 lines → BeginNone prefix (class_tails place.0) lines) all
+places_none prefix kinds holes [] lines n w f h = tt
+places_none prefix kinds holes (x ∷ all) lines n w f h =
+    let p = and_parts (place_apart kinds x) (list_all (place_apart kinds) all) h in
+    ((λ shown. classes_none prefix kinds holes x.1 (class_tails x.0) lines n w f p.0 shown), places_none prefix kinds holes all lines n w f p.1)
 
 pub tails_seen : TailsSeen
-tails_seen prefix p holes front steps s place k lines n w filled e lt at shown =
+tails_seen prefix p holes front steps s lines n w filled e =
     let f = filled.fills in
-    let test : place_apart (holes_of p) place ≡ true = sym (ap (place_apart (holes_of p)) at) ∙ place_at (place_apart (holes_of p)) (places s.0 steps) k place (part_tested p front steps s e).1 lt in
-    classes_none prefix (holes_of p) holes place.1 (class_tails place.0) lines n w f test shown
+    places_none prefix (holes_of p) holes (places s.0 steps) lines n w f (part_tested p front steps s e).1

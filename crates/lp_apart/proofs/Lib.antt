@@ -6,3 +6,5 @@ pub mod Fronts
 pub mod Apart
 pub mod Law
 pub mod Ends
+pub mod Printed
+pub mod Examples

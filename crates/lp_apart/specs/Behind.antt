@@ -1,6 +1,6 @@
 -- What stands behind the parts of a step, and the classes of which a step may have no more parts there.
 use Rattle.std.specs.Prelude.{◌≡◌, ℕ, zero, suc, ◌<◌, Bool, true, false, not, ◌&&◌, List, [], ◌∷◌, ◌++◌, length}
-use Rattle.std.specs.List.{list_all, list_any, flat_map}
+use Rattle.std.specs.List.{list_all, list_any, flat_map, AllByRecursion}
 use Rattle.lp_form.specs.Classes.{members_of}
 use Rattle.lp_form.specs.Templates.{steps_of, holes_of}
 use Rattle.lp_form.specs.Templates as template
@@ -11,7 +11,6 @@ use Rattle.lp_form.specs.declared.template.Step.{Step}
 use Rattle.lp_form.specs.declared.template.Step.TheVariants as step
 use Rattle.lp_apart.specs.Begins.{Lines, member, SomeMember, Begins}
 use Rattle.lp_apart.specs.Opens.{StepsOpen, Opens}
-use Rattle.lp_apart.specs.ApartTests.{Beginning, bound, whole_beginning, apart_within}
 
 -- the class of which a step may have no more parts, though it may have one
 abbrev pub ended_classes : Step → List Class
@@ -78,8 +77,7 @@ abbrev pub BeginNoMember : List ℕ → Class → Lines → Type 0
 BeginNoMember prefix class lines = (i m : ℕ) → i < length (members_of class) → Begins m prefix (member class i) lines → ⊥
 
 abbrev pub BeginNone : List ℕ → List Class → Lines → Type 0
-BeginNone prefix [] lines = Unit {0}
-BeginNone prefix (class ∷ classes) lines = BeginNoMember prefix class lines × BeginNone prefix classes lines
+BeginNone prefix classes lines = AllByRecursion (λ class. BeginNoMember prefix class lines) classes
 
 -- no lines: where the steps that are left show none, it is told at the part above what stands behind
 abbrev pub NoLines : Lines → Type 0
@@ -88,21 +86,3 @@ NoLines lines = ⊥
 -- steps of a part show the lines in front, and at least one
 abbrev pub Follow : ℕ → List ℕ → List (List ℕ) → List template.Line → Lines → Type 0
 Follow n prefix holes steps lines = StepsOpen (λ class rest. SomeMember class (λ m. Opens n prefix m rest)) NoLines prefix holes steps lines
-
--- tests: in front of steps no part of a class begins; at each step of a part, none of those that may be missing there
-abbrev pub always : Beginning → Bool
-always b = true
-
-abbrev pub none_begun : List Kind → List template.Line → Class → Bool
-none_begun kinds steps class = list_all (λ m. apart_within bound always (whole_beginning m) (kinds, steps)) (members_of class)
-
-abbrev pub place_apart : List Kind → Place → Bool
-place_apart kinds place = list_all (none_begun kinds place.1) (class_tails place.0)
-
-abbrev pub ends_apart_in : List Kind → List template.Line → Bool
-ends_apart_in kinds [] = true
-ends_apart_in kinds (s ∷ steps) =
-    list_all (none_begun kinds steps) (ended_classes s.0) && (list_all (place_apart kinds) (places s.0 steps) && ends_apart_in kinds steps)
-
-abbrev pub has_apart_ends : Part → Bool
-has_apart_ends p = ends_apart_in (holes_of p) (steps_of p)
