@@ -1,5 +1,5 @@
 -- Where the test passes, lines that show an opening don't begin a beginning.
-use Rattle.std.proofs.Common.{◌≡◌, ℕ, ◌<◌, ◌≤◌, zero, suc, Bool, true, false, ◌&&◌, ◌||◌, List, [], ◌∷◌, ◌++◌, length, map, get_or, drop, codes, Option, Some, inl, inr, ⊎_elim, refl, sym, ◌∙◌, ap, subst, arith, eqb, append-nil, length-append}
+use Rattle.std.proofs.Common.{◌≡◌, ℕ, ◌<◌, ◌≤◌, zero, suc, Bool, true, false, List, [], ◌∷◌, ◌++◌, length, map, get_or, drop, codes, Some, ⊎_elim, refl, sym, ◌∙◌, ap, subst, arith, eqb, append-nil}
 use Rattle.std.specs.List.{list_all, starts_with}
 use Rattle.std.proofs.lemmas.Bool.{and_parts, or_cases, cases_lt, both_ways}
 use Rattle.std.proofs.lemmas.List.{get_or_append_left}
@@ -20,8 +20,8 @@ use Rattle.lp_spelling.specs.LineReading.{kind_of, line_at, AllFill}
 use Rattle.lp_spelling.proofs.Reading.{starts_ok, line_extends}
 use Rattle.lp_found.specs.Found.{are_words}
 use Rattle.lp_apart.specs.Begins.{Lines, member, SomeMember, ReadsFirst, IsUseFirst, StepBegins, StepsBegin, Begins}
-use Rattle.lp_apart.specs.Opens.{IsFirst, StepOpens, StepsOpen, Anything, Opens}
-use Rattle.lp_apart.specs.Signs.{Sign, Shows, signs}
+use Rattle.lp_apart.specs.Opens.{StepOpens, StepsOpen, Anything, Opens}
+use Rattle.lp_apart.specs.Signs.{Shows, signs}
 use Rattle.lp_apart.specs.Signs.Sign.{byte, unknown}
 use Rattle.lp_apart.specs.ApartTests.{Beginning, Opening, Test, whole_beginning, whole_opening, lines_apart, use_line, class_apart, step_apart, line_apart, begin_apart, steps_begin_apart, never, apart_within, end_text, ends_apart}
 use Rattle.lp_apart.proofs.Spelled.{line_spelled}

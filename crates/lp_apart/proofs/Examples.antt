@@ -1,5 +1,5 @@
 -- Worked examples: lines that are told apart at their front, at their end, by a line behind them, and by what a hole may hold.
-use Rattle.std.proofs.Common.{◌≡◌, ℕ, true, false, List, [], ◌∷◌, get_or, codes, Option, Some, None, refl}
+use Rattle.std.proofs.Common.{◌≡◌, ℕ, true, false, List, [], ◌∷◌, get_or, codes, Option, Some, refl}
 use Rattle.lp_form.specs.Classes.{members_of}
 use Rattle.lp_form.specs.Templates.{Piece, steps_of, holes_of}
 use Rattle.lp_form.specs.declared.class.Class.TheVariants as class
@@ -7,7 +7,7 @@ use Rattle.lp_form.specs.declared.part.Part.{Part}
 use Rattle.lp_form.specs.declared.part.Part.TheVariants as part
 use Rattle.lp_form.specs.declared.template.Step.TheVariants as step
 use Rattle.lp_spelling.specs.HoleEnds.{first_at, left_by, times, is_alone, kind_len, hole_len}
-use Rattle.lp_spelling.specs.Fillings.{holds, has_shape, are_filled, fits_behind}
+use Rattle.lp_spelling.specs.Fillings.{are_filled, fits_behind}
 use Rattle.lp_spelling.specs.LineReading.{after, new_at, slot_at, line_at}
 use Rattle.lp_apart.specs.ApartTests.{lines_apart, ends_apart, fronts_apart, is_apart_from, parts_apart}
 use Rattle.lp_apart.specs.Signs.{signs}

@@ -1,15 +1,15 @@
 -- No line has the signs of two that pass the test.
-use Rattle.std.proofs.Common.{◌≡◌, ℕ, ◌+◌, ◌-◌, ◌<◌, ◌≤◌, ◌==◌, zero, suc, Bool, true, false, not, ◌&&◌, ◌||◌, cond, List, [], ◌∷◌, ◌++◌, length, reverse, get_or, take, drop, codes, inl, inr, ⊎_elim, refl, sym, ◌∙◌, ap, subst, arith, eqb, ltb, eq-eqb, append_assoc, length-append}
+use Rattle.std.proofs.Common.{◌≡◌, ℕ, ◌+◌, ◌-◌, ◌<◌, ◌≤◌, ◌==◌, zero, suc, Bool, true, false, not, ◌&&◌, ◌||◌, List, [], ◌∷◌, ◌++◌, length, reverse, get_or, drop, codes, inl, inr, ⊎_elim, refl, sym, ◌∙◌, ap, subst, arith, eqb, eq-eqb, append_assoc, length-append}
 use Rattle.std.specs.List.{list_all, prefix_len, starts_with}
-use Rattle.std.proofs.lemmas.Bool.{and_parts, and_from, or_cases, or_left, or_right, cases_Bool, cases_lt, cond-true, cond-false, eqb-true, ltb-true, not-true, both_ways, lt-ltb}
+use Rattle.std.proofs.lemmas.Bool.{and_parts, and_from, or_cases, or_right, cases_Bool, cases_lt, cond-true, cond-false, eqb-true, not-true, both_ways, lt-ltb}
 use Rattle.std.proofs.lemmas.List.{append_cancel_left, reverse-append, get_or_append_left, get_or-append_right, drop_at}
 use Rattle.lp_form.specs.declared.template.Kind.{Kind}
 use Rattle.lp_form.specs.declared.template.Kind.TheVariants as kind
-use Rattle.lp_texts.specs.Brackets.{closes, Leads, leads_none}
-use Rattle.lp_texts.specs.OneLine.{IsOneLine, IsWrong, begins_comment, needs_bracket, is_none_open, begins, is_wrong}
+use Rattle.lp_texts.specs.Brackets.{closes, leads_none}
+use Rattle.lp_texts.specs.OneLine.{IsOneLine, begins_comment, needs_bracket, is_none_open, begins, is_wrong}
 use Rattle.lp_texts.specs.OneLine.IsWrong.{outside}
 use Rattle.lp_spelling.specs.HoleEnds.{is_digit, is_word, first_at}
-use Rattle.lp_spelling.specs.Fillings.{holds, is_element, is_capture, is_numbered, is_fitting, fits_behind, are_filled, has_shape, line_part, Fits, Fills, is_name, without_front}
+use Rattle.lp_spelling.specs.Fillings.{holds, is_element, is_capture, is_fitting, fits_behind, are_filled, has_shape, line_part, Fits, Fills, is_name, without_front}
 use Rattle.lp_spelling.proofs.Reading.{starts_again}
 use Rattle.lp_found.specs.Found.{are_words}
 use Rattle.lp_found.specs.LineTests.{is_without}

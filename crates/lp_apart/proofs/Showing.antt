@@ -8,11 +8,11 @@ use Rattle.lp_form.specs.declared.template.Slot.{Slot}
 use Rattle.lp_form.specs.declared.template.Slot.TheVariants.{Nothing, Prefix, Hole}
 use Rattle.lp_form.specs.Templates.{Piece}
 use Rattle.lp_spelling.specs.Lines.{slot_text, line_of}
-use Rattle.lp_spelling.specs.Fillings.{has_shape, line_part, Fits, Fills}
+use Rattle.lp_spelling.specs.Fillings.{has_shape, Fits, Fills}
 use Rattle.lp_spelling.specs.LineReading.{kind_of}
 use Rattle.lp_spelling.proofs.Reading.{starts_ok}
 use Rattle.lp_apart.specs.Signs.{Sign, Shows, kind_signs, slot_signs, signs}
-use Rattle.lp_apart.specs.Signs.Sign.{byte, own, filled, unknown}
+use Rattle.lp_apart.specs.Signs.Sign.{byte, unknown}
 use Rattle.lp_apart.specs.ApartTests.{end_text}
 
 -- a slot's hole, where it has a kind, is filled

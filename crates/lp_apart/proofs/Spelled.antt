@@ -1,5 +1,5 @@
 -- A line that is read is spelled by its pieces, with the holes that are told.
-use Rattle.std.proofs.Common.{◌≡◌, ℕ, ◌+◌, ◌<◌, ◌≤◌, false, List, [], ◌∷◌, ◌++◌, length, get_or, take, drop, Option, Some, None, refl, sym, ◌∙◌, ap, arith, ltb, ⊎_elim, append_assoc, append-nil, length-append, take-append-drop}
+use Rattle.std.proofs.Common.{◌≡◌, ℕ, ◌+◌, ◌≤◌, List, [], ◌∷◌, ◌++◌, length, get_or, take, drop, Some, None, refl, sym, ◌∙◌, ap, arith, ltb, ⊎_elim, append_assoc, length-append, take-append-drop}
 use Rattle.std.proofs.lemmas.Bool.{ltb-true, ltb-false}
 use Rattle.std.proofs.lemmas.List.{get_or_append_left, get_or_push}
 use Rattle.lp_form.specs.declared.template.Kind.{Kind}
@@ -8,7 +8,7 @@ use Rattle.lp_form.specs.declared.template.Slot.TheVariants.{Nothing, Prefix, Ho
 use Rattle.lp_form.specs.Templates.{Piece}
 use Rattle.lp_spelling.specs.Lines.{slot_text, line_of, IsTold, AreTold}
 use Rattle.lp_spelling.specs.HoleEnds.{hole_len}
-use Rattle.lp_spelling.specs.LineReading.{◌>>=◌, after, kind_of, new_at, slot_at, part_at, line_at}
+use Rattle.lp_spelling.specs.LineReading.{after, kind_of, new_at, slot_at, part_at, line_at}
 use Rattle.lp_spelling.proofs.Reading.{bind_some, guard_some, chosen, after_ok, line_extends}
 use Rattle.lp_found.proofs.Holding.{empty_is}
 
@@ -75,10 +75,9 @@ line_spelled prefix kinds (p ∷ parts) known text holes h =
     let m = line_extends prefix kinds parts b.0.0 b.0.1 holes b.2 in
     let r = line_spelled prefix kinds parts b.0.0 b.0.1 holes b.2 in
     let size : length b.0.0 ≤ length holes = omega (arith, ap length m.1, length-append b.0.0 m.0) in
-    let stays : slot_text prefix b.0.0 p.1 ≡ slot_text prefix holes p.1 = sym (ap (λ (y : List (List ℕ)). slot_text prefix y p.1) m.1 ∙ slot_stays prefix b.0.0 m.0 p.1 s.1) in
-    (
+    let stays : slot_text prefix b.0.0 p.1 ≡ slot_text prefix holes p.1 = sym (ap (λ (y : List (List ℕ)). slot_text prefix y p.1) m.1 ∙ slot_stays prefix b.0.0 m.0 p.1 s.1) in (
       after_ok p.0 text a.0 a.1
-      ∙ ap (λ (y : List ℕ). p.0 ++ y) (s.0 ∙ ap (λ (y : List ℕ). y ++ b.0.1) stays ∙ ap (λ (y : List ℕ). slot_text prefix holes p.1 ++ y) r.0)
-      ∙ sym (append_assoc p.0 (slot_text prefix holes p.1) (line_of prefix holes parts)),
+          ∙ ap (λ (y : List ℕ). p.0 ++ y) (s.0 ∙ ap (λ (y : List ℕ). y ++ b.0.1) stays ∙ ap (λ (y : List ℕ). slot_text prefix holes p.1 ++ y) r.0)
+          ∙ sym (append_assoc p.0 (slot_text prefix holes p.1) (line_of prefix holes parts)),
       (told_more (length b.0.0) (length holes) p.1 size s.1, r.1),
     )

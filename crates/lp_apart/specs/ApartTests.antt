@@ -9,8 +9,7 @@ use Rattle.lp_form.specs.declared.class.Class.TheVariants as class
 use Rattle.lp_form.specs.declared.part.Part.{Part}
 use Rattle.lp_form.specs.declared.template.Kind.{Kind}
 use Rattle.lp_form.specs.declared.template.Kind.TheVariants as kind
-use Rattle.lp_form.specs.declared.template.Slot.{Slot}
-use Rattle.lp_form.specs.declared.template.Slot.TheVariants.{Nothing, Prefix, Hole}
+use Rattle.lp_form.specs.declared.template.Slot.TheVariants.{Nothing, Hole}
 use Rattle.lp_form.specs.declared.template.Step.{Step}
 use Rattle.lp_form.specs.declared.template.Step.TheVariants as step
 use Rattle.lp_texts.specs.Brackets.{closes}

@@ -1,5 +1,5 @@
 -- What the lines in front begin, as the reader of programs asks it: the first lines of a part are read there, and their holes hold what they may.
-use Rattle.std.specs.Prelude.{◌≡◌, ℕ, zero, suc, ◌<◌, Bool, true, false, List, [], ◌∷◌, length, get_or, Option, Some, codes, nat_eq}
+use Rattle.std.specs.Prelude.{◌≡◌, ℕ, zero, suc, ◌<◌, Bool, true, false, List, [], ◌∷◌, length, get_or, Some, codes, nat_eq}
 use Rattle.std.specs.List.{starts_with}
 use Rattle.lp_form.specs.Classes.{members_of}
 use Rattle.lp_form.specs.Templates.{Piece, steps_of, holes_of}

@@ -1,5 +1,5 @@
 -- What is known of a printed line from left to right: bytes of literal texts, the prefix, and texts that fill holes.
-use Rattle.std.specs.Prelude.{◌≡◌, ℕ, Bool, if◌then◌else◌, nat_lt, List, [], ◌∷◌, ◌++◌, length, map, codes}
+use Rattle.std.specs.Prelude.{◌≡◌, ℕ, if◌then◌else◌, nat_lt, List, [], ◌∷◌, ◌++◌, length, map, codes}
 use Rattle.lp_form.specs.Templates.{Piece}
 use Rattle.lp_form.specs.declared.template.Kind.{Kind}
 use Rattle.lp_form.specs.declared.template.Kind.TheVariants as kind
