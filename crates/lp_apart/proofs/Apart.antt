@@ -140,14 +140,14 @@ class_sound prefix inner b c lines depth sound h begun s =
 abbrev StepShown : (Lines → Type 0) → List ℕ → ℕ → List (List ℕ) → Step → List Piece → List template.Line → List ℕ → Lines → Type 0
 StepShown Behind prefix depth holes s q steps l rest =
     StepOpens s
-    ((l ≡ line_of prefix holes q) × StepsOpen (λ class x. SomeMember class (λ m. Opens depth prefix m x)) Behind prefix holes steps rest)
+    ((l ≡ line_of prefix holes q) × StepsOpen (λ class x. SomeMember class (λ m. Opens depth prefix m x)) Anything prefix holes steps rest)
     (StepsOpen (λ class x. SomeMember class (λ m. Opens depth prefix m x)) Behind prefix holes steps (l ∷ rest))
     (starts_with eqb l (codes "use ") ≡ true)
     (λ class. SomeMember class (λ m. Opens depth prefix m (l ∷ rest)))
 
 step_sound : (Behind : Lines → Type 0) (prefix : List ℕ) (go inner : Test) (b : Beginning) (kinds : List Kind) (pieces : List Piece) (next : Opening → Bool) (l : List ℕ) (rest : Lines) →
     are_words prefix ≡ true → IsSound Behind prefix go → IsSound Anything prefix inner → BegunBy prefix b (l ∷ rest) → IsLine prefix kinds pieces l →
-    ((o : Opening) → next o ≡ true → ShownBy Behind prefix o rest → ⊥) →
+    ((o : Opening) → next o ≡ true → ShownBy Anything prefix o rest → ⊥) →
     (s : Step) (others : List Kind) (q : List Piece) (steps : List template.Line) (depth : ℕ) (holes : List (List ℕ)) → step_apart go inner b kinds pieces next s others q steps ≡ true → HolesFill prefix others holes →
     StepShown Behind prefix depth holes s q steps l rest → ⊥
 step_sound Behind prefix go inner b kinds pieces next l rest w gs is begun line ns (step.Line blanks) others q steps depth holes h f shown =
@@ -176,7 +176,7 @@ step_sound Behind prefix go inner b kinds pieces next l rest w gs is begun line 
 -- a line that is read, against what is shown
 line_sound : (Behind : Lines → Type 0) (prefix : List ℕ) (go inner : Test) (ended : Beginning → Bool) (b : Beginning) (kinds : List Kind) (pieces : List Piece) (next : Opening → Bool) (l : List ℕ) (rest : Lines) →
     are_words prefix ≡ true → IsSound Behind prefix go → IsSound Anything prefix inner → EndIsSound Behind prefix ended → BegunBy prefix b (l ∷ rest) → IsLine prefix kinds pieces l →
-    ((o : Opening) → next o ≡ true → ShownBy Behind prefix o rest → ⊥) →
+    ((o : Opening) → next o ≡ true → ShownBy Anything prefix o rest → ⊥) →
     (others : List Kind) (steps : List template.Line) → line_apart go inner ended b kinds pieces next others steps ≡ true → ShownBy Behind prefix (others, steps) (l ∷ rest) → ⊥
 line_sound Behind prefix go inner ended b kinds pieces next l rest w gs is es begun line ns others [] h shown = es b (l ∷ rest) h begun shown.3
 line_sound Behind prefix go inner ended b kinds pieces next l rest w gs is es begun line ns others (s ∷ steps) h shown =
@@ -198,8 +198,8 @@ begin_sound : (Behind : Lines → Type 0) (prefix : List ℕ) (go inner : Test) 
 begin_sound Behind prefix go inner ended b o w gs is es (step.Line blanks) seen kinds pieces steps [] depth known h begun shown f st = st
 begin_sound Behind prefix go inner ended b o w gs is es (step.Line blanks) seen kinds pieces steps (l ∷ rest) depth known h begun shown f st =
     let r = read_line prefix kinds pieces known st.0 l st.1 f st.2 in
-    line_sound Behind prefix go inner ended b kinds pieces (go (true, kinds, steps)) l rest w gs is es begun r.0
-    (λ x n behind. gs (true, kinds, steps) x rest n (depth, st.0, r.1, st.3) behind)
+    line_sound Behind prefix go inner ended b kinds pieces (inner (true, kinds, steps)) l rest w gs is es begun r.0
+    (λ x n behind. is (true, kinds, steps) x rest n (depth, st.0, r.1, st.3) behind)
     o.0 o.1 h shown
 begin_sound Behind prefix go inner ended b o w gs is es step.Empty seen kinds pieces steps lines depth known h begun shown f st = gs (seen, kinds, steps) o lines h (depth, known, f, st) shown
 begin_sound Behind prefix go inner ended b o w gs is es step.Note seen kinds pieces steps lines depth known h begun shown f st = gs (seen, kinds, steps) o lines h (depth, known, f, st) shown

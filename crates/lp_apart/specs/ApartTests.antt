@@ -140,7 +140,7 @@ line_apart go inner ended b kinds pieces next others (s ∷ steps) = step_apart 
 
 -- the step in front of a beginning: a line, a use, or parts that begin it
 abbrev pub begin_apart : Test → Test → (Beginning → Bool) → Beginning → Step → Bool → List Kind → List Piece → List template.Line → Opening → Bool
-begin_apart go inner ended b (step.Line blanks) seen kinds pieces steps o = line_apart go inner ended b kinds pieces (go (true, kinds, steps)) o.0 o.1
+begin_apart go inner ended b (step.Line blanks) seen kinds pieces steps o = line_apart go inner ended b kinds pieces (inner (true, kinds, steps)) o.0 o.1
 begin_apart go inner ended b step.Empty seen kinds pieces steps o = go (seen, kinds, steps) o
 begin_apart go inner ended b step.Note seen kinds pieces steps o = go (seen, kinds, steps) o
 begin_apart go inner ended b step.NoteAlways seen kinds pieces steps o = go (seen, kinds, steps) o
@@ -155,7 +155,7 @@ steps_begin_apart go inner ended seen kinds (s ∷ steps) o = begin_apart go inn
 abbrev pub never : Beginning → Bool
 never b = false
 
--- in at most n steps, no lines show the opening and begin the beginning; ended is for lines behind all steps of the opening
+-- in at most n steps, no lines show the opening and begin the beginning; ended is for lines behind an opening that shows none
 abbrev pub apart_within : ℕ → (Beginning → Bool) → Test
 apart_within zero ended b o = false
 apart_within (suc n) ended b o = steps_begin_apart (apart_within n ended) (apart_within n never) ended b.0 b.1 b.2 o

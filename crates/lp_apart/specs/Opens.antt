@@ -30,19 +30,19 @@ StepOpens (step.Many class) line others uses below = below class ⊎ others
 StepOpens (step.Pairs first second) line others uses below = below first ⊎ others
 StepOpens _ line others uses below = Unit {0}
 
--- steps show the lines in front; Behind is what is known of those behind all steps
+-- nothing is known
+abbrev pub Anything : Lines → Type 0
+Anything lines = Unit {0}
+
+-- steps show the lines in front; where they show none, Behind tells what stands there. Behind the last line nothing is known
 abbrev pub StepsOpen : (Class → Lines → Type 0) → (Lines → Type 0) → List ℕ → List (List ℕ) → List template.Line → Lines → Type 0
 StepsOpen below Behind prefix holes [] lines = Behind lines
 StepsOpen below Behind prefix holes (s ∷ steps) lines =
     StepOpens s.0
-    (IsFirst (line_of prefix holes s.1) lines (λ rest. StepsOpen below Behind prefix holes steps rest))
+    (IsFirst (line_of prefix holes s.1) lines (λ rest. StepsOpen below Anything prefix holes steps rest))
     (StepsOpen below Behind prefix holes steps lines)
     (IsUseFirst lines)
     (λ class. below class lines)
-
--- nothing is known
-abbrev pub Anything : Lines → Type 0
-Anything lines = Unit {0}
 
 -- a printed part shows the lines in front, where parts stand at most so deep in one another
 unfoldable pub Opens : ℕ → List ℕ → Part → Lines → Type 0
