@@ -1,0 +1,35 @@
+-- What the laws say: a text that reads as trees shows them, and its lines begin nothing else.
+use Rattle.std.specs.Prelude.{◌≡◌, ℕ, ◌<◌, true, false, List, ◌∷◌, ◌++◌, length}
+use Rattle.lp_form.specs.Classes.{members_of}
+use Rattle.lp_form.specs.Templates.{steps_of}
+use Rattle.lp_form.specs.Templates as template
+use Rattle.lp_form.specs.declared.class.Class.{Class}
+use Rattle.lp_form.specs.declared.part.Part.{Part}
+use Rattle.lp_program.specs.Trees.{Content, Forest}
+use Rattle.lp_program.specs.Trees.Forest.{tree}
+use Rattle.lp_program.specs.Reads.{Reads}
+use Rattle.lp_program.specs.Reads.Task.{trees, steps}
+use Rattle.lp_found.specs.Found.{are_words, AreFilled}
+use Rattle.lp_apart.specs.Begins.{Lines, member, Begins}
+use Rattle.lp_apart.specs.Opens.{Opens}
+use Rattle.lp_apart.specs.ApartTests.{is_body}
+use Rattle.lp_apart.specs.Behind.{ended_classes, BeginNone}
+use Rattle.lp_shown.specs.TextLines.{HasLines}
+
+-- a part shows the lines
+abbrev pub IsShown : List ℕ → Part → Lines → Type 0
+IsShown prefix p lines = (depth : ℕ) × Opens depth prefix p lines
+
+-- where a text reads as trees, the first of them shows its lines
+abbrev pub TreesShown : Type 0
+TreesShown = (prefix : List ℕ) (c : Content) (below after : Forest) (text rest : List ℕ) (lines : Lines) → Reads prefix (trees (tree c below after)) text rest → HasLines text lines → IsShown prefix c.part lines
+
+-- they begin none of the parts before it in a class; but for the body of an action
+abbrev pub TreesChosen : Type 0
+TreesChosen = (prefix : List ℕ) (class : Class) (i j : ℕ) (c : Content) (below after : Forest) (text rest : List ℕ) (lines : Lines) (n : ℕ) → are_words prefix ≡ true → is_body class ≡ false →
+    i < j → j < length (members_of class) → c.part ≡ member class j → Reads prefix (trees (tree c below after)) text rest → HasLines text lines → Begins n prefix (member class i) lines → ⊥
+
+-- where the steps behind a step of a part take something off a text, its lines begin no part that the step may have no more of
+abbrev pub StepsEnded : Type 0
+StepsEnded = (prefix : List ℕ) (c : Content) (front others : List template.Line) (s : template.Line) (count : ℕ) (later : Forest) (text rest : List ℕ) (lines : Lines) → are_words prefix ≡ true → AreFilled prefix c.part c.holes →
+    steps_of c.part ≡ front ++ s ∷ others → Reads prefix (steps c count others later) text rest → (rest ≡ text → ⊥) → HasLines text lines → BeginNone prefix (ended_classes s.0) lines
