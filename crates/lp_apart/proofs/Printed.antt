@@ -40,7 +40,7 @@ known_grows (p ∷ parts) n =
     let b = known_grows parts (known_after p.1 n) in
     omega (arith, a, b)
 
-behind_grows : (steps : List template.Line) (n : ℕ) → n ≤ known_behind steps n
+pub behind_grows : (steps : List template.Line) (n : ℕ) → n ≤ known_behind steps n
 behind_grows [] n = omega arith
 behind_grows (s ∷ steps) n =
     let a = known_grows s.1 n in
@@ -48,27 +48,27 @@ behind_grows (s ∷ steps) n =
     omega (arith, a, b)
 
 -- a step that shows nothing has no pieces
-abbrev is_bare : Step → List Piece → Bool
+abbrev pub is_bare : Step → List Piece → Bool
 is_bare step.Empty pieces = length pieces == 0
 is_bare step.Note pieces = length pieces == 0
 is_bare step.NoteAlways pieces = length pieces == 0
 is_bare _ pieces = true
 
-abbrev are_bare : List template.Line → Bool
+abbrev pub are_bare : List template.Line → Bool
 are_bare [] = true
 are_bare (s ∷ steps) = is_bare s.0 s.1 && are_bare steps
 
-templates_bare : (p : Part) → are_bare (steps_of p) ≡ true
+pub templates_bare : (p : Part) → are_bare (steps_of p) ≡ true
 unfolding steps_of
 templates_bare part.Program = refl
 templates_bare _ = refl
 
-none_known : (pieces : List Piece) (n : ℕ) → (length pieces == 0) ≡ true → known_in pieces n ≡ n
+pub none_known : (pieces : List Piece) (n : ℕ) → (length pieces == 0) ≡ true → known_in pieces n ≡ n
 none_known [] n h = refl
 none_known (p ∷ pieces) n h = absurd (omega (arith, eqb-true (length (p ∷ pieces)) 0 h))
 
 -- the holes that a line tells hold what they may
-taken_fill : (prefix : List ℕ) (kinds : List Kind) (holes : List (List ℕ)) (n m : ℕ) → HolesFill prefix kinds holes → m ≤ length kinds → AllFill prefix kinds n (take m holes)
+pub taken_fill : (prefix : List ℕ) (kinds : List Kind) (holes : List (List ℕ)) (n m : ℕ) → HolesFill prefix kinds holes → m ≤ length kinds → AllFill prefix kinds n (take m holes)
 taken_fill prefix kinds holes n m f le k from lt =
     let within : k < m = omega (arith, length-take m holes, lt) in
     subst (λ (x : List ℕ). Fills prefix (kind_of kinds k) x) (sym (get_or-take m holes k [] within)) (f k (omega (arith, within, le)))

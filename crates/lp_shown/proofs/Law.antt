@@ -1,9 +1,7 @@
 -- The laws of what texts show.
-use Rattle.std.proofs.Common.{◌≡◌, ℕ, List, subst}
-use Rattle.lp_program.specs.Trees.{Content, Forest}
+use Rattle.std.proofs.Common.{◌≡◌, subst}
 use Rattle.lp_program.specs.Trees.Forest.{tree}
 use Rattle.lp_program.specs.Reads.Task.{trees, steps}
-use Rattle.lp_apart.specs.Begins.{member}
 use Rattle.lp_apart.specs.Opens.{Opens}
 use Rattle.lp_apart.specs.Behind.{NoLines}
 use Rattle.lp_apart.proofs.Law.{alternatives_apart}

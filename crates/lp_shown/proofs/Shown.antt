@@ -1,6 +1,6 @@
 -- What a text that reads as trees, or that steps take something off, shows.
-use Rattle.std.proofs.Common.{◌≡◌, ℕ, ◌+◌, ◌<◌, ◌≤◌, zero, suc, true, false, ◌&&◌, ◌⊎◌, ◌==◌, List, [], ◌∷◌, ◌++◌, length, get_or, take, drop, codes, inl, inr, ⊎_elim, refl, sym, ◌∙◌, ap, subst, arith, eqb, ltb, take-append-drop}
-use Rattle.std.specs.List.{list_all, prefix_len, starts_with}
+use Rattle.std.proofs.Common.{◌≡◌, ℕ, ◌+◌, ◌≤◌, suc, true, false, ◌==◌, List, [], ◌∷◌, ◌++◌, length, take, drop, codes, inl, inr, ⊎_elim, refl, sym, ◌∙◌, ap, subst, arith, eqb, ltb, take-append-drop}
+use Rattle.std.specs.List.{starts_with}
 use Rattle.std.proofs.Math.Dec.{leb}
 use Rattle.std.proofs.lemmas.Bool.{and_parts, eqb-true, both_ways}
 use Rattle.std.proofs.lemmas.List.{length-take}
@@ -10,19 +10,18 @@ use Rattle.lp_form.specs.declared.class.Class.{Class}
 use Rattle.lp_form.specs.declared.part.Part.{Part}
 use Rattle.lp_form.specs.declared.template.Step.{Step}
 use Rattle.lp_form.specs.declared.template.Step.TheVariants as step
-use Rattle.lp_spelling.specs.Counting.{settled, is_text, line_len, front_line, behind_line}
+use Rattle.lp_spelling.specs.Counting.{settled, line_len, front_line}
 use Rattle.lp_spelling.specs.Lines.{line_of}
 use Rattle.lp_spelling.proofs.Reading.{starts_again}
 use Rattle.lp_program.specs.Trees.{Content, Forest, tree_count}
 use Rattle.lp_program.specs.Trees.Forest.{bare, tree}
 use Rattle.lp_program.specs.Printed.{is_member}
-use Rattle.lp_program.specs.CodeReading.{IsUse}
-use Rattle.lp_program.specs.Reads.{TakesLine, TakesOwn, parts_in, are_pairs, may_have, text_steps, hole_count, KindsFill, Task, Reads}
+use Rattle.lp_program.specs.Reads.{TakesLine, TakesOwn, parts_in, may_have, hole_count, KindsFill, Task, Reads}
 use Rattle.lp_program.specs.Reads.Task.{trees, steps}
 use Rattle.lp_program.specs.Reads.Reads.{no_tree, one_tree, no_step, one_step}
 use Rattle.lp_found.specs.Found.{AreFilled}
 use Rattle.lp_found.proofs.Places.{begins_within}
-use Rattle.lp_apart.specs.Begins.{Lines, member, SomeMember, IsUseFirst}
+use Rattle.lp_apart.specs.Begins.{Lines, SomeMember, IsUseFirst}
 use Rattle.lp_apart.specs.Opens.{Anything, IsFirst, StepOpens, StepsOpen, Opens}
 use Rattle.lp_shown.specs.TextLines.{HasLines}
 use Rattle.lp_shown.specs.TextLines.HasLines.{no_line, one_line}
@@ -60,12 +59,12 @@ steps_weaker below More Less prefix holes (s ∷ ss) lines f h =
     (λ o. steps_weaker below More Less prefix holes ss lines f o) h
 
 -- the line that is taken is the first of those of the text
-taken_line : (l text own : List ℕ) (lines : Lines) → TakesLine l text own → HasLines text lines → (rest : Lines) × (lines ≡ l ∷ rest) × HasLines own rest
+pub taken_line : (l text own : List ℕ) (lines : Lines) → TakesLine l text own → HasLines text lines → (rest : Lines) × (lines ≡ l ∷ rest) × HasLines own rest
 taken_line l text own _ t (no_line _ e) = let some = t.some in absurd (omega (arith, some, ap length e))
 taken_line l text own _ t (one_line _ lines some h) = (lines, ap (λ (x : List ℕ). x ∷ lines) t.line_is, subst (λ (x : List ℕ). HasLines x lines) (sym t.rest_is) h)
 
 -- the first line of a use
-use_line : (text y : List ℕ) (lines : Lines) → settled text ≡ codes "use " ++ y → HasLines text lines → IsUseFirst lines
+pub use_line : (text y : List ℕ) (lines : Lines) → settled text ≡ codes "use " ++ y → HasLines text lines → IsUseFirst lines
 use_line text y _ e (no_line _ none) = let no : codes "use " ++ y ≡ [] = sym e ∙ none in absurd (omega (arith, ap length no))
 use_line text y _ e (one_line _ lines some h) =
     let line : List ℕ = codes "use " ++ y in
@@ -107,7 +106,7 @@ tree_shown prefix class c below after text own mid lines e m shown h =
     let at = member_place class c.part m in
     (r.0, (at.0, at.1, subst (λ p. Opens r.0 prefix p lines) at.2 r.1))
 
-none_below : (n : ℕ) → (suc n == 0) ≡ true → ⊥
+pub none_below : (n : ℕ) → (suc n == 0) ≡ true → ⊥
 none_below n h = let e = eqb-true (suc n) 0 h in omega (arith, e)
 
 step_shown : (prefix : List ℕ) (c : Content) (pieces : List Piece) (others : List template.Line) (count more : ℕ) (later : Forest) (text own mid rest : List ℕ) (s : Step) (now : Forest) → may_have s (parts_in now) ≡ true →
@@ -156,7 +155,7 @@ step_shown prefix c pieces others count more later text own mid rest (step.Pairs
 step_shown prefix c pieces others count more later text own mid rest _ now fits takes trees_are steps_are lines h = (0, tt)
 
 -- the holes of a part that is read hold what they may
-filled_read : (prefix : List ℕ) (c : Content) → length c.holes ≡ hole_count c.part → KindsFill prefix c.part c.holes → AreFilled prefix c.part c.holes
+pub filled_read : (prefix : List ℕ) (c : Content) → length c.holes ≡ hole_count c.part → KindsFill prefix c.part c.holes → AreFilled prefix c.part c.holes
 filled_read prefix c count fills = record { count = omega (arith, count); fills = fills }
 
 part_opens : (prefix : List ℕ) (depth : ℕ) (p : Part) (holes : List (List ℕ)) (lines : Lines) → AreFilled prefix p holes → StepsOpen (Below depth prefix) Anything prefix holes (steps_of p) lines → Opens (suc depth) prefix p lines

@@ -1,15 +1,16 @@
 -- What the laws say: a text that reads as trees shows them, and its lines begin nothing else.
-use Rattle.std.specs.Prelude.{◌≡◌, ℕ, ◌<◌, true, false, List, ◌∷◌, ◌++◌, length}
+use Rattle.std.specs.Prelude.{◌≡◌, ℕ, suc, ◌<◌, true, false, List, ◌∷◌, ◌++◌, length}
 use Rattle.lp_form.specs.Classes.{members_of}
 use Rattle.lp_form.specs.Templates.{steps_of}
 use Rattle.lp_form.specs.Templates as template
 use Rattle.lp_form.specs.declared.class.Class.{Class}
 use Rattle.lp_form.specs.declared.part.Part.{Part}
 use Rattle.lp_program.specs.Trees.{Content, Forest}
-use Rattle.lp_program.specs.Trees.Forest.{tree}
+use Rattle.lp_program.specs.Trees.Forest.{bare, tree}
 use Rattle.lp_program.specs.Reads.{Reads}
 use Rattle.lp_program.specs.Reads.Task.{trees, steps}
 use Rattle.lp_found.specs.Found.{are_words, AreFilled}
+use Rattle.lp_found.specs.Parted.{IsParted}
 use Rattle.lp_apart.specs.Begins.{Lines, member, Begins}
 use Rattle.lp_apart.specs.Opens.{Opens}
 use Rattle.lp_apart.specs.ApartTests.{is_body}
@@ -28,6 +29,16 @@ TreesShown = (prefix : List ℕ) (c : Content) (below after : Forest) (text rest
 abbrev pub TreesChosen : Type 0
 TreesChosen = (prefix : List ℕ) (class : Class) (i j : ℕ) (c : Content) (below after : Forest) (text rest : List ℕ) (lines : Lines) (n : ℕ) → are_words prefix ≡ true → is_body class ≡ false →
     i < j → j < length (members_of class) → c.part ≡ member class j → Reads prefix (trees (tree c below after)) text rest → HasLines text lines → Begins n prefix (member class i) lines → ⊥
+
+-- the holes of all trees are parted, and those of the trees below them
+abbrev pub AreParted : List ℕ → Forest → Type 0
+AreParted prefix bare = Unit {0}
+AreParted prefix (tree c below after) = IsParted prefix c.part c.holes × AreParted prefix below × AreParted prefix after
+
+-- they begin its own part, where all holes are parted, from the depth 2 on
+abbrev pub TreesBegun : Type 0
+TreesBegun = (prefix : List ℕ) (c : Content) (below after : Forest) (text rest : List ℕ) (lines : Lines) (n : ℕ) → are_words prefix ≡ true → AreParted prefix (tree c below after) →
+    Reads prefix (trees (tree c below after)) text rest → HasLines text lines → Begins (suc (suc n)) prefix c.part lines
 
 -- where the steps behind a step of a part take something off a text, its lines begin no part that the step may have no more of
 abbrev pub StepsEnded : Type 0

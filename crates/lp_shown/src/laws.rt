@@ -1,12 +1,13 @@
 //! Laws between the reading of texts and the first lines of parts.
 
-ghost use Rattle.lp_shown.specs.Laws.{TreesShown, TreesChosen, StepsEnded};
+ghost use Rattle.lp_shown.specs.Laws.{TreesShown, TreesChosen, TreesBegun, StepsEnded};
 
-/// Where a text reads as trees, its lines are those that the first tree's part shows, and begin none of
-/// the parts before it in its class. Where steps take something off it, its lines begin no part that the
+/// Where a text reads as trees, its lines are those that the first tree's part shows; they begin it, and
+/// none of the parts before it in its class. Where steps take something off it, its lines begin no part that the
 /// step before them has no more of.
 pub fn texts()
     ensures shown { TreesShown }
     ensures chosen { TreesChosen }
+    ensures begun { TreesBegun }
     ensures ended { StepsEnded }
 {}

@@ -1,4 +1,5 @@
 use Rattle.lp_shown.proofs.Law.{trees_shown, trees_chosen, steps_ended}
+use Rattle.lp_shown.proofs.Begun.{trees_begun}
 use Rattle.lp_shown.proofs.laws.texts.Goals as goal
 
 pub returns-clause-shown : goal.returns-clause-shown
@@ -9,3 +10,6 @@ returns-clause-chosen c = trees_chosen
 
 pub returns-clause-ended : goal.returns-clause-ended
 returns-clause-ended c = steps_ended
+
+pub returns-clause-begun : goal.returns-clause-begun
+returns-clause-begun c = trees_begun
