@@ -1,5 +1,5 @@
 -- The lines of a text that reads as trees begin the first of them.
-use Rattle.std.proofs.Common.{◌≡◌, ℕ, ◌+◌, ◌<◌, ◌≤◌, zero, suc, Bool, true, false, ◌&&◌, ◌==◌, List, [], ◌∷◌, length, take, Some, refl, sym, ◌∙◌, ap, subst, arith}
+use Rattle.std.proofs.Common.{◌≡◌, ℕ, ◌+◌, ◌≤◌, zero, suc, Bool, true, false, ◌==◌, List, [], ◌∷◌, length, take, refl, sym, ◌∙◌, ap, subst, arith}
 use Rattle.std.specs.List.{list_all}
 use Rattle.std.proofs.lemmas.Bool.{and_parts, both_ways}
 use Rattle.lp_form.specs.Classes.{members_of}
@@ -8,11 +8,9 @@ use Rattle.lp_form.specs.Templates as template
 use Rattle.lp_form.specs.declared.class.Class.{Class}
 use Rattle.lp_form.specs.declared.part.Part.{Part}
 use Rattle.lp_form.specs.declared.part.Part.TheVariants as part
-use Rattle.lp_form.specs.declared.template.Kind.{Kind}
 use Rattle.lp_form.specs.declared.template.Step.{Step}
 use Rattle.lp_form.specs.declared.template.Step.TheVariants as step
 use Rattle.lp_spelling.specs.Lines.{line_of}
-use Rattle.lp_spelling.specs.LineReading.{line_at}
 use Rattle.lp_spelling.specs.LineHoles.{known_in}
 use Rattle.lp_program.specs.Trees.{Content, Forest, tree_count}
 use Rattle.lp_program.specs.Trees.Forest.{bare, tree}
@@ -21,7 +19,6 @@ use Rattle.lp_program.specs.Reads.{TakesOwn, graft, parts_in, may_have, Task, Re
 use Rattle.lp_program.specs.Reads.Task.{trees, steps}
 use Rattle.lp_program.specs.Reads.Reads.{no_tree, one_tree, no_step, one_step}
 use Rattle.lp_found.specs.Found.{are_words, LineFound, LinesFound, known_behind}
-use Rattle.lp_found.specs.Parted.{IsParted}
 use Rattle.lp_found.proofs.Asking.{lines_tell_all}
 use Rattle.lp_found.proofs.Law.{holes_found}
 use Rattle.lp_apart.specs.Begins.{Lines, member, SomeMember, ReadsFirst, IsUseFirst, StepBegins, StepsBegin, Begins}
