@@ -2,3 +2,4 @@ pub mod Parts
 pub mod Shown
 pub mod Law
 pub mod Begun
+pub mod Existing

@@ -1,5 +1,6 @@
 -- What the laws say: a text that reads as trees shows them, and its lines begin nothing else.
 use Rattle.std.specs.Prelude.{◌≡◌, ℕ, suc, ◌<◌, true, false, List, ◌∷◌, ◌++◌, length}
+use Rattle.std.specs.Str.{IsUtf8}
 use Rattle.lp_form.specs.Classes.{members_of}
 use Rattle.lp_form.specs.Templates.{steps_of}
 use Rattle.lp_form.specs.Templates as template
@@ -16,6 +17,13 @@ use Rattle.lp_apart.specs.Opens.{Opens}
 use Rattle.lp_apart.specs.ApartTests.{is_body}
 use Rattle.lp_apart.specs.Behind.{ended_classes, BeginNone}
 use Rattle.lp_shown.specs.TextLines.{HasLines}
+
+-- each text has its lines, and no others
+abbrev pub LinesExist : Type 0
+LinesExist = (text : List ℕ) → IsUtf8 text → (lines : Lines) × HasLines text lines
+
+abbrev pub LinesAreThese : Type 0
+LinesAreThese = (text : List ℕ) (lines others : Lines) → HasLines text lines → HasLines text others → lines ≡ others
 
 -- a part shows the lines
 abbrev pub IsShown : List ℕ → Part → Lines → Type 0
