@@ -1,12 +1,13 @@
 -- The laws of what texts show.
-use Rattle.std.proofs.Common.{◌≡◌, subst}
+use Rattle.std.proofs.Common.{◌≡◌, List, subst}
+use Rattle.std.specs.List.{AllByRecursion}
 use Rattle.lp_program.specs.Trees.Forest.{tree}
 use Rattle.lp_program.specs.Reads.Task.{trees, steps}
 use Rattle.lp_apart.specs.Opens.{Opens}
-use Rattle.lp_apart.specs.Behind.{NoLines}
+use Rattle.lp_apart.specs.Behind.{NoLines, Place, class_tails, BeginNone, Follow}
 use Rattle.lp_apart.proofs.Law.{alternatives_apart}
-use Rattle.lp_apart.proofs.Ends.{ends_seen}
-use Rattle.lp_shown.specs.Laws.{TreesShown, TreesChosen, StepsEnded}
+use Rattle.lp_apart.proofs.Ends.{ends_seen, tails_seen}
+use Rattle.lp_shown.specs.Laws.{TreesShown, TreesChosen, StepsEnded, TailsEnded}
 use Rattle.lp_shown.proofs.Shown.{Below, steps_weaker, task_shown}
 
 pub trees_shown : TreesShown
@@ -22,3 +23,10 @@ steps_ended prefix c front others s count later text rest lines w f e reads some
     let r = task_shown prefix (steps c count others later) text rest reads lines h in
     ends_seen prefix c.part c.holes front others s lines r.0 w f e
     (steps_weaker (Below r.0 prefix) (λ x. rest ≡ text) NoLines prefix c.holes others lines some r.1)
+
+pub tails_ended : TailsEnded
+tails_ended prefix c front others s class count later text rest lines w f e one reads some h =
+    let r = task_shown prefix (steps c count others later) text rest reads lines h in
+    let follow : Follow r.0 prefix c.holes others lines = steps_weaker (Below r.0 prefix) (λ x. rest ≡ text) NoLines prefix c.holes others lines some r.1 in
+    let all = subst (λ (x : List Place). AllByRecursion (λ place. Follow r.0 prefix c.holes place.1 lines → BeginNone prefix (class_tails place.0) lines) x) one (tails_seen prefix c.part c.holes front others s lines r.0 w f e) in
+    all.0 follow

@@ -1,5 +1,5 @@
 -- What the laws say: a text that reads as trees shows them, and its lines begin nothing else.
-use Rattle.std.specs.Prelude.{◌≡◌, ℕ, suc, ◌<◌, true, false, List, ◌∷◌, ◌++◌, length}
+use Rattle.std.specs.Prelude.{◌≡◌, ℕ, suc, ◌<◌, true, false, List, [], ◌∷◌, ◌++◌, length}
 use Rattle.std.specs.Str.{IsUtf8}
 use Rattle.lp_form.specs.Classes.{members_of}
 use Rattle.lp_form.specs.Templates.{steps_of}
@@ -15,7 +15,7 @@ use Rattle.lp_found.specs.Parted.{IsParted}
 use Rattle.lp_apart.specs.Begins.{Lines, member, Begins}
 use Rattle.lp_apart.specs.Opens.{Opens}
 use Rattle.lp_apart.specs.ApartTests.{is_body}
-use Rattle.lp_apart.specs.Behind.{ended_classes, BeginNone}
+use Rattle.lp_apart.specs.Behind.{ended_classes, places, class_tails, BeginNone}
 use Rattle.lp_shown.specs.TextLines.{HasLines}
 
 -- each text has its lines, and no others
@@ -52,3 +52,8 @@ TreesBegun = (prefix : List ℕ) (c : Content) (below after : Forest) (text rest
 abbrev pub StepsEnded : Type 0
 StepsEnded = (prefix : List ℕ) (c : Content) (front others : List template.Line) (s : template.Line) (count : ℕ) (later : Forest) (text rest : List ℕ) (lines : Lines) → are_words prefix ≡ true → AreFilled prefix c.part c.holes →
     steps_of c.part ≡ front ++ s ∷ others → Reads prefix (steps c count others later) text rest → (rest ≡ text → ⊥) → HasLines text lines → BeginNone prefix (ended_classes s.0) lines
+
+-- where the steps behind a step with at most one part take something off a text, its lines begin none that may be missing at the part's end
+abbrev pub TailsEnded : Type 0
+TailsEnded = (prefix : List ℕ) (c : Content) (front others : List template.Line) (s : template.Line) (class : Class) (count : ℕ) (later : Forest) (text rest : List ℕ) (lines : Lines) → are_words prefix ≡ true → AreFilled prefix c.part c.holes →
+    steps_of c.part ≡ front ++ s ∷ others → places s.0 others ≡ (class, others) ∷ [] → Reads prefix (steps c count others later) text rest → (rest ≡ text → ⊥) → HasLines text lines → BeginNone prefix (class_tails class) lines

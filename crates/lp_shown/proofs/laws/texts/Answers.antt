@@ -1,4 +1,4 @@
-use Rattle.lp_shown.proofs.Law.{trees_shown, trees_chosen, steps_ended}
+use Rattle.lp_shown.proofs.Law.{trees_shown, trees_chosen, steps_ended, tails_ended}
 use Rattle.lp_shown.proofs.Begun.{trees_begun}
 use Rattle.lp_shown.proofs.laws.texts.Goals as goal
 
@@ -13,3 +13,6 @@ returns-clause-ended c = steps_ended
 
 pub returns-clause-begun : goal.returns-clause-begun
 returns-clause-begun c = trees_begun
+
+pub returns-clause-tails : goal.returns-clause-tails
+returns-clause-tails c = tails_ended
