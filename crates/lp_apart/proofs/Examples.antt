@@ -5,13 +5,15 @@ use Rattle.lp_form.specs.Templates.{Piece, steps_of, holes_of}
 use Rattle.lp_form.specs.declared.class.Class.TheVariants as class
 use Rattle.lp_form.specs.declared.part.Part.{Part}
 use Rattle.lp_form.specs.declared.part.Part.TheVariants as part
+use Rattle.lp_form.specs.declared.template.Slot.TheVariants.{Nothing}
 use Rattle.lp_form.specs.declared.template.Step.TheVariants as step
+use Rattle.lp_spelling.specs.Lines.{line_of}
 use Rattle.lp_spelling.specs.HoleEnds.{first_at, left_by, times, is_alone, kind_len, hole_len}
 use Rattle.lp_spelling.specs.Fillings.{are_filled, fits_behind}
 use Rattle.lp_spelling.specs.LineReading.{after, new_at, slot_at, line_at}
 use Rattle.lp_apart.specs.ApartTests.{lines_apart, ends_apart, fronts_apart, is_apart_from, parts_apart}
 use Rattle.lp_apart.specs.Signs.{signs}
-use Rattle.lp_apart.specs.Behind.{class_tails}
+use Rattle.lp_apart.specs.Behind.{class_tails, Follow}
 
 -- the line of a part's step
 abbrev pieces : Part → ℕ → List Piece
@@ -30,7 +32,7 @@ next_apart : ends_apart (pieces part.ReduceCallArm 1) (pieces part.SpanEmpty 0) 
 unfolding steps_of
 next_apart = refl
 
--- without what follows it, the body is not told
+-- so the two are told, by what follows the first line
 body_apart : is_apart_from part.ReduceCallArm part.ReduceBodyArm ≡ true
 unfolding members_of steps_of holes_of lines_apart
 body_apart = refl
@@ -53,10 +55,10 @@ shifts_end : ends_apart (pieces part.ShiftWhole 0) (pieces part.ShiftArm 0) ≡ 
 unfolding steps_of
 shifts_end = refl
 
--- the second part isn't told from the first by the test, since the first may be longer: the order of the class counts
-order_counts : is_apart_from part.ShiftArm part.ShiftWhole ≡ false
+-- of parts in the other order nothing is asked
+other_order : is_apart_from part.ShiftArm part.ShiftWhole ≡ false
 unfolding members_of steps_of holes_of lines_apart
-order_counts = refl
+other_order = refl
 
 -- the body of an action is not told by its lines
 bodies_not : parts_apart (members_of class.ActionBody) ≡ false
@@ -67,3 +69,8 @@ bodies_not = refl
 header_tails : class_tails class.HeaderState ≡ class.Clauses ∷ class.ClauseRow ∷ []
 unfolding members_of steps_of
 header_tails = refl
+
+-- what follows the last step of a part may be its last line
+end_follows : Follow 0 (codes "__") [] ((step.Line 0, (codes "}", Nothing) ∷ []) ∷ []) (codes "}" ∷ [])
+unfolding line_of
+end_follows = (refl, tt)
