@@ -1,11 +1,10 @@
 //! Reading the rows of a form.
 
 ghost use Rattle.std.specs.Prelude.{◌≡◌, ◌<◌, ◌≤◌, [], get_or, length, map};
-ghost use Rattle.std.specs.Iterator.{at_most};
 ghost use Rattle.lp_tree.specs.ProgramTree.{item};
-ghost use Rattle.lp_view.specs.PartLists.{hole_of};
+ghost use Rattle.lp_view.specs.PartLists.{either_below, hole_of, rows_left};
 
-use crate::walk::{FormRef, after_first, child, end_of, first, place_of};
+use crate::walk::{FormRef, after_first, child, first, part_place};
 use lp_form::Part;
 use lp_tree::tree::{Entry, Reduced};
 
@@ -83,7 +82,6 @@ pub enum RowView<'p, 't> {
 #[derive(Clone, Copy)]
 pub struct Rows<'p, 't> {
     rest: &'p [Entry<'t>],
-    left: usize,
     first: Part,
     second: Part,
 }
@@ -93,11 +91,11 @@ pub(crate) fn rows_below<'p, 't>(
     entries: &'p [Entry<'t>],
     first: Part,
     second: Part,
-) -> Rows<'p, 't> {
-    let rest = after_first(entries);
+) -> Rows<'p, 't>
+    ensures { rows_left result ≡ either_below first second (map item entries.now) }
+{
     Rows {
-        rest,
-        left: rest.len(),
+        rest: after_first(entries),
         first,
         second,
     }
@@ -106,21 +104,22 @@ pub(crate) fn rows_below<'p, 't>(
 impl<'p, 't> Iterator for Rows<'p, 't> {
     type Item = RowView<'p, 't>;
 
-    ghost remaining = { λ s. at_most s.left };
+    ghost use Rattle.std.specs.Iterator.{item_count};
+    ghost use Rattle.lp_view.specs.PartLists.{YieldsRow, rows_left};
+
+    ghost next_gives = { YieldsRow };
+
+    ghost remaining = { item_count rows_left };
 
     fn next(&mut self) -> Option<RowView<'p, 't>> {
-        if self.left == 0 {
-            return None;
-        }
-        self.left -= 1;
         let rest = self.rest;
-        let at = place_of(rest, 0, self.first, self.second);
-        if at >= rest.len() {
-            return None;
+        match part_place(rest, 0, self.first, self.second) {
+            None => None,
+            Some((at, end)) => {
+                self.rest = &rest[end..];
+                Some(row_view(&rest[at..end]))
+            }
         }
-        let end = end_of(rest, at);
-        self.rest = &rest[end..];
-        Some(row_view(&rest[at..end]))
     }
 }
 
