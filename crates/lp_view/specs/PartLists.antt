@@ -1,5 +1,5 @@
 -- Parts of a program, each with all that is below it, as lists in the order of the text.
-use Rattle.std.specs.Prelude.{ℕ, zero, suc, ℤ, Bool, List, [], ◌∷◌, length, map, take, drop, get_or, Option, Some, None, slice_get, unwrap_or, is_some, ◌||◌, ◌≡◌, MatchOption, if◌then◌else◌}
+use Rattle.std.specs.Prelude.{ℕ, zero, suc, ℤ, Bool, List, [], ◌∷◌, length, map, take, drop, get_or, Option, Some, None, slice_get, unwrap_or, is_some, ◌||◌, if◌then◌else◌}
 use Rattle.std.specs.Option.{option_or}
 use Rattle.std.specs.List.{filter}
 use Rattle.lp_form.specs.declared.part.Part.{Part}
@@ -11,8 +11,6 @@ use Rattle.lp_form.specs.contracts.part.PartPartialEq.TheImpl as equality
 use Rattle.lp_tree.specs.ProgramTree.{Item, item}
 use Rattle.lp_view.specs.declared.part.PartRef.{PartRef}
 use Rattle.lp_view.specs.declared.part.Parts.{Parts}
-use Rattle.lp_view.specs.declared.row.Rows.{Rows}
-use Rattle.lp_view.specs.declared.row.RowView.{RowView}
 use Rattle.lp_view.specs.declared.walk.Below.{Below}
 use Rattle.lp_view.specs.declared.walk.FormRef.{FormRef}
 
@@ -113,14 +111,6 @@ parts_left p = level p.left (map item p.rest.now)
 -- the forms that are left to go over
 abbrev pub forms_left : Below → List Form
 forms_left b = forms_among (map item b.rest.now)
-
--- the rows that are left to go over
-abbrev pub rows_left : Rows → List Form
-rows_left r = either_among r.first r.second (map item r.rest.now)
-
--- a row comes for the first of them, and the others are left
-abbrev pub YieldsRow : Rows → Option RowView → Rows → Type 0
-YieldsRow s r t = MatchOption r ((rows_left s ≡ []) × (rows_left t ≡ [])) (λ row. (f : Form) × (rows_left s ≡ f ∷ rows_left t))
 
 -- what comes of going over parts, one after another
 abbrev pub over : {S : Type 0} → (S → Form → S) → S → List Form → S

@@ -4,18 +4,13 @@ use crate::form_view::{
     ActionView, FormView, LocationView, NameView, ReductionView, SpanView, TriplesView,
 };
 use crate::row::{Rows, number, rows_below, text};
-use crate::walk::child;
+use crate::walk::{child, has};
 use lp_form::Part;
 use lp_tree::tree::Entry;
 
 /// The rows directly below that are one part.
 fn all<'p, 't>(entries: &'p [Entry<'t>], part: Part) -> Rows<'p, 't> {
     rows_below(entries, part, part)
-}
-
-/// Whether a part stands directly below.
-fn has(entries: &[Entry<'_>], part: Part) -> bool {
-    !child(entries, part, part).is_empty()
 }
 
 /// The text of a part directly below, if it is there.

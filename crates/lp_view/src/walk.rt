@@ -5,6 +5,7 @@ ghost use Rattle.std.specs.Option.{option_copied, option_map};
 ghost use Rattle.lp_tree.specs.declared.tree.Entry.{Entry};
 ghost use Rattle.lp_form.specs.Forms.{form_of};
 ghost use Rattle.lp_tree.specs.ProgramTree.{item, program_items};
+ghost use Rattle.lp_view.specs.HeldRows.{has_below};
 ghost use Rattle.lp_view.specs.PartLists.{either_among, first_of_either, form_listed, forms_among, forms_below, forms_left, is_either, is_form, kind_of};
 
 use crate::form_view::FormView;
@@ -175,5 +176,15 @@ pub(crate) fn child<'p, 't>(entries: &'p [Entry<'t>], first: Part, second: Part)
     match part_place(entries, 1, first, second) {
         None => &entries[entries.len()..],
         Some((at, end)) => &entries[at..end],
+    }
+}
+
+/// Whether a part stands directly below.
+pub(crate) fn has(entries: &[Entry<'_>], part: Part) -> bool
+    ensures { result ≡ has_below part (map item entries.now) }
+{
+    match first(child(entries, part, part)) {
+        None => false,
+        Some(_) => true,
     }
 }
