@@ -2,7 +2,7 @@
 use Rattle.std.proofs.Common.{◌≡◌, ℕ, zero, suc, ◌+◌, ◌-◌, ◌<◌, ◌≤◌, Bool, true, false, List, [], ◌∷◌, length, map, take, drop, get_or, cond, refl, ap, sym, ◌∙◌, arith, length-drop}
 use Rattle.std.specs.Prelude.{min}
 use Rattle.std.specs.List.{filter}
-use Rattle.std.proofs.lemmas.List.{at_drop_more, drop-drop, length-map}
+use Rattle.std.proofs.lemmas.List.{at_drop_more, drop-drop}
 use Rattle.lp_form.specs.declared.part.Part.{Part}
 use Rattle.lp_tree.specs.ProgramTree.{Item, item}
 use Rattle.lp_tree.specs.declared.tree.Entry.{Entry}

@@ -1,5 +1,5 @@
 -- Worked examples of elements and patterns.
-use Rattle.std.proofs.Common.{◌≡◌, List, [], ◌∷◌, codes, refl}
+use Rattle.std.proofs.Common.{◌≡◌, [], ◌∷◌, codes, refl}
 use Rattle.lp_view.specs.Elements.{elements, patterns}
 
 ranges : elements (codes " | ") (codes "0 | 2..=4") ≡ codes "0" ∷ codes "2..=4" ∷ []
