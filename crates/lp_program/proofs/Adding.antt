@@ -251,7 +251,7 @@ part_start part g r p h = record {
 pub step_count : (items : List HeldStep) (ss : List template.Line) → template.lines_of items ≡ ss → length items ≡ length ss
 step_count items ss e = sym (length-map items template.line) ∙ ap length e
 
-step_there : (items : List HeldStep) (ss : List template.Line) (i : ℕ) (d : HeldStep) → template.lines_of items ≡ ss → i < length items →
+pub step_there : (items : List HeldStep) (ss : List template.Line) (i : ℕ) (d : HeldStep) → template.lines_of items ≡ ss → i < length items →
     template.line (get_or items i d) ≡ get_or ss i (template.line (get_or items i d))
 step_there items ss i d e lt =
     let s = template.line (get_or items i d) in

@@ -1,4 +1,6 @@
 pub mod Adding
+pub mod Beginning
+pub mod Picking
 pub mod Looking
 pub mod Forests
 pub mod Grafts

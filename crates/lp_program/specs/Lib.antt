@@ -8,3 +8,5 @@ pub mod Taking
 pub mod Reads
 pub mod Growing
 pub mod Adding
+pub mod Begins
+pub mod Looking

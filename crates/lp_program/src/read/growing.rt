@@ -9,6 +9,7 @@ ghost use Rattle.lp_spelling.specs.Cursors.{left, IsTaken};
 ghost use Rattle.lp_program.specs.CodeReading.{IsUse, IsCode};
 ghost use Rattle.lp_program.specs.Reads.{TakesLine, TakesLines};
 ghost use Rattle.lp_program.specs.Growing.{Grows, MayBecome};
+ghost use Rattle.lp_program.specs.Looking.{AnswersLine, OfLines};
 
 use crate::read::taking::{take_code, take_use};
 use lp_form::Part;
@@ -27,6 +28,22 @@ pub(crate) struct Growing<'t> {
     pub(crate) numbers: Vec<i32>,
     /// Whether its table was read.
     pub(crate) tabled: bool,
+}
+
+/// Whether the next line is spelled by the pieces. The holes that it tells are added to those that are
+/// known.
+pub(crate) fn line_fits<'t>(
+    scope: Scope<'_>,
+    pieces: &[LinePart],
+    known: &mut Vec<Piece<'t>>,
+    cursor: Cursor<'t>,
+) -> Result<bool, AllocError>
+    ensures { IfOk result (λ b. OfLines (left cursor.entry) (AnswersLine scope.entry.prefix.now scope.entry.kinds.now (map piece pieces.now) known.old.items known.new.items b)) }
+{
+    match cursor.line() {
+        Some(line) => read_line(scope, pieces, known, line),
+        None => Ok(false),
+    }
 }
 
 /// Takes a line that the pieces spell, and gives the place behind it.

@@ -1,7 +1,7 @@
 //! The reader of programs: by the templates of the parts, from the front of the text on.
 
 ghost use Rattle.std.specs.Prelude.{◌≡◌, ℕ, ◌<◌, ◌+◌, true, Some, List, [], length, IsTrue, IfOk, OnOk, IfSome};
-ghost use Rattle.std.specs.Bool.{OnTrue};
+ghost use Rattle.std.specs.Bool.{Decides, OnTrue};
 ghost use Rattle.lp_form.specs.Templates.{holes_of};
 ghost use Rattle.lp_form.specs.Templates as template;
 ghost use Rattle.lp_form.specs.declared.class.Class.TheVariants as class_of;
@@ -10,17 +10,19 @@ ghost use Rattle.lp_form.specs.declared.template.Step.TheVariants as step_of;
 ghost use Rattle.lp_spelling.specs.Counting.{settled};
 ghost use Rattle.lp_spelling.specs.Cursors.{left};
 ghost use Rattle.lp_program.specs.Adding.{kids, Adds, Brings, FilledAt, IsPair, IsPart, MayHave, Opened, OwnTaken, Reread, StepBrings, StepsBring, WholeRead};
+ghost use Rattle.lp_program.specs.Begins.{Begins, IsUseFirst};
+ghost use Rattle.lp_program.specs.Looking.{Chooses, OfLines, Picks};
 ghost use Rattle.lp_program.specs.Printed.{is_member};
 ghost use Rattle.lp_program.specs.Reads.{ReadsAs};
 
 use crate::print::own::tree_count;
-use crate::read::growing::{Growing, code_step, line_step, lines_step, use_step};
+use crate::read::growing::{Growing, code_step, line_fits, line_step, lines_step, use_step};
 use crate::read::prefix::{NO_PREFIX, prefix_of};
 use crate::read::taking::{TakenTable, cut_line, take_entries};
 use crate::read::told::{is_blank_part, is_told};
 use lp_form::{Class, Line, Part, Step, holes, members, steps};
 use lp_spelling::cursor::Cursor;
-use lp_spelling::line::{Scope, read_line};
+use lp_spelling::line::Scope;
 use lp_tree::piece::Piece;
 use lp_tree::tree::{Entry, Program};
 use std::alloc::{AllocError, Global};
@@ -371,7 +373,8 @@ impl<'t> Reader<'t> {
     /// Whether the lines in front begin the part.
     #[cycle(looking)]
     fn begins(&mut self, depth: usize, part: Part) -> Result<bool, AllocError>
-        ensures { OnOk result (self.new ≡ record self.old { worst = self.new.worst }) }
+        ensures kept { OnOk result (self.new ≡ record self.old { worst = self.new.worst }) }
+        ensures exact { IfOk result (λ b. OfLines (left self.old.cursor) (λ lines. Decides b (Begins depth self.old.prefix.now part lines))) }
     {
         if depth == 0 {
             return Ok(false);
@@ -383,19 +386,17 @@ impl<'t> Reader<'t> {
         for step in steps(part) {
             match step.0 {
                 Step::Line(_) => {
-                    let fits = match cursor.line() {
-                        Some(line) => read_line(scope, step.1, &mut known, line)?,
-                        None => false,
-                    };
-                    if !fits {
+                    if !line_fits(scope, step.1, &mut known, cursor)? {
                         self.miss(cursor.number());
                         return Ok(false);
                     }
                     cursor = cursor.after_line();
                     lines = true;
                 }
-                Step::Empty | Step::Note | Step::NoteAlways => {}
-                Step::Use => return Ok(self.begins_use()),
+                Step::Empty => {}
+                Step::Note => {}
+                Step::NoteAlways => {}
+                Step::Use => return Ok(self.begins_use(cursor)),
                 Step::One(class) => {
                     return Ok(lines || self.pick(depth - 1, class)?.is_some());
                 }
@@ -405,15 +406,15 @@ impl<'t> Reader<'t> {
         Ok(true)
     }
 
-    /// Whether the next line begins a use.
-    fn begins_use(&mut self) -> bool
-        ensures { self.new ≡ record self.old { worst = self.new.worst } }
+    /// Whether the next line at a place begins a use.
+    fn begins_use(&mut self, cursor: Cursor<'t>) -> bool
+        ensures kept { self.new ≡ record self.old { worst = self.new.worst } }
+        ensures exact { OfLines (left cursor.entry) (λ lines. Decides result (IsUseFirst lines)) }
     {
-        match self.cursor.line() {
+        match cursor.line() {
             Some(line) if line.starts_with("use ") => true,
             _ => {
-                let line = self.cursor.number();
-                self.miss(line);
+                self.miss(cursor.number());
                 false
             }
         }
@@ -424,6 +425,7 @@ impl<'t> Reader<'t> {
     fn pick(&mut self, depth: usize, class: Class) -> Result<Option<Part>, AllocError>
         ensures kept { OnOk result (self.new ≡ record self.old { worst = self.new.worst }) }
         ensures member { IfOk result (λ r. IfSome r (λ part. is_member class part ≡ true)) }
+        ensures exact { IfOk result (λ r. OfLines (left self.old.cursor) (Picks depth self.old.prefix.now class r)) }
     {
         for part in members(class) {
             if self.begins(depth, *part)? {
@@ -437,6 +439,7 @@ impl<'t> Reader<'t> {
     fn choose(&mut self, depth: usize, class: Class) -> Result<Option<Part>, AllocError>
         ensures kept { OnOk result (self.new ≡ record self.old { worst = self.new.worst }) }
         ensures member { IfOk result (λ r. IfSome r (λ part. is_member class part ≡ true)) }
+        ensures exact { IfOk result (λ r. OfLines (left self.old.cursor) (Chooses depth self.old.prefix.now class r)) }
     {
         let parts = members(class);
         if parts.len() == 1 {
