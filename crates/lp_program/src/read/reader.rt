@@ -109,6 +109,7 @@ impl<'t> Reader<'t> {
     fn at_end(&mut self) -> bool
         ensures kept { self.new ≡ record self.old { worst = self.new.worst } }
         ensures none { IsTrue result → settled (left self.old.cursor) ≡ [] }
+        ensures exact { settled (left self.old.cursor) ≡ [] → result ≡ true }
     {
         if self.cursor.line().is_none() {
             return true;
