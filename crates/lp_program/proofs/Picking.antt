@@ -1,6 +1,5 @@
 -- A reader that tries the parts of a class, and one that sees a line.
-use denote.Ref.{Bor}
-use Rattle.std.proofs.Common.{◌≡◌, ℕ, zero, suc, ◌+◌, ◌<◌, ◌≤◌, ◌==◌, Bool, true, false, List, [], ◌∷◌, length, get_or, Option, Some, None, ⊎_elim, refl, sym, ap, ◌∙◌, arith, subst}
+use Rattle.std.proofs.Common.{◌≡◌, ℕ, ◌+◌, ◌<◌, ◌≤◌, ◌==◌, Bool, true, false, List, [], ◌∷◌, length, get_or, Option, Some, None, ⊎_elim, sym, ap, ◌∙◌, arith, subst}
 use Rattle.std.specs.Bool.{Decides, MatchBool}
 use Rattle.std.proofs.lemmas.Bool.{cases_lt, false≢true, false_from_ne_true, eqb-true, eq-eqb}
 use Rattle.std.proofs.lemmas.List.{get_or_default}
@@ -12,8 +11,8 @@ use Rattle.lp_form.specs.declared.part.Part.TheVariants as part
 use Rattle.lp_form.specs.declared.template.Kind.{Kind}
 use Rattle.lp_spelling.specs.Counting.{settled, front_line}
 use Rattle.lp_spelling.specs.LineReading.{line_at, ReadsLine}
-use Rattle.lp_program.specs.Begins.{Lines, member, Begins}
-use Rattle.lp_program.specs.Looking.{AreCounted, OfLines, AnswersLine, NoneBegun, Picks, Chooses}
+use Rattle.lp_program.specs.Begins.{member, Begins}
+use Rattle.lp_program.specs.Looking.{OfLines, AnswersLine, NoneBegun, Picks, Chooses}
 
 -- the line in front is read
 pub line_answered : (prefix : List ℕ) (kinds : List Kind) (pieces : List Piece) (old new : List (List ℕ)) (text l : List ℕ) (b : Bool) → l ≡ front_line (settled text) → 0 < length (settled text) →
