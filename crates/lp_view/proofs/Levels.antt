@@ -16,10 +16,11 @@ level_empty zero es h = refl
 level_empty (suc n) [] h = refl
 level_empty (suc n) (e ∷ es) h = absurd (omega arith)
 
-taken : (b : ℕ) (es : List Entry) → take b (map item es) ≡ map item (take (min b (length es)) es)
+-- the front of a list and what follows it, where it may be shorter
+pub taken : (b : ℕ) (es : List Entry) → take b (map item es) ≡ map item (take (min b (length es)) es)
 taken b es = take-map item b es ∙ ap (map item) (sym (take_min b es))
 
-dropped : (b : ℕ) (es : List Entry) → drop b (map item es) ≡ map item (drop (min b (length es)) es)
+pub dropped : (b : ℕ) (es : List Entry) → drop b (map item es) ≡ map item (drop (min b (length es)) es)
 dropped b es = drop-map item b es ∙ ap (map item) (sym (drop_min b es))
 
 -- the first with all that is below it, and those after it

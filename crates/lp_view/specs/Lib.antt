@@ -1,1 +1,4 @@
+pub mod Elements
+pub mod HeldRows
 pub mod PartLists
+pub mod Weights

@@ -2,17 +2,12 @@
 #![tactic(auto)]
 
 pub mod count;
-mod form_view;
 mod joined;
-mod made;
 mod part;
-mod row;
-mod walk;
+pub mod row;
+pub mod walk;
 
 pub use count::{form_count, form_number, node_count};
-pub use form_view::{
-    ActionView, FormView, LocationView, NameView, ReductionView, SpanView, TriplesView,
-};
 pub use joined::{Joined, Patterns, parts_of, patterns_of};
 pub use part::{PartRef, Parts};
 pub use row::{RowView, Rows};

@@ -1,14 +1,13 @@
 //! Walking over the forms of a program.
 
-ghost use Rattle.std.specs.Prelude.{◌≡◌, ◌+◌, ◌<◌, ◌≤◌, drop, get_or, length, map, min, slice_get};
+ghost use Rattle.std.specs.Prelude.{◌≡◌, ◌+◌, ◌-◌, ◌<◌, ◌≤◌, [], ◌∷◌, drop, get_or, length, map, min, slice_get, take, unwrap_or, IfSome, MatchOption};
 ghost use Rattle.std.specs.Option.{option_copied, option_map};
 ghost use Rattle.lp_tree.specs.declared.tree.Entry.{Entry};
-ghost use Rattle.std.specs.Iterator.{at_most};
+ghost use Rattle.lp_form.specs.Forms.{form_of};
 ghost use Rattle.lp_tree.specs.ProgramTree.{item, program_items};
-ghost use Rattle.lp_view.specs.PartLists.{form_listed};
+ghost use Rattle.lp_view.specs.HeldRows.{has_below};
+ghost use Rattle.lp_view.specs.PartLists.{either_among, first_of_either, form_listed, forms_among, forms_below, forms_left, is_either, is_form, kind_of};
 
-use crate::form_view::FormView;
-use crate::made::made_view;
 use lp_form::{FormKind, Part, form};
 use lp_tree::tree::{Entry, Program};
 
@@ -21,25 +20,26 @@ pub struct FormRef<'p, 't> {
 
 impl<'p, 't> FormRef<'p, 't> {
     /// Which form it is.
-    pub fn kind(&self) -> FormKind {
-        match self.entries.first() {
-            Some(entry) => form(entry.part).unwrap_or(FormKind::Program),
-            None => FormKind::Program,
-        }
+    pub fn kind(&self) -> FormKind
+        ensures { result ≡ kind_of (form_listed self.now) }
+    {
+        kind_or_program(self.as_part().part())
     }
 
     /// The forms below it, in the order of the text.
-    pub fn below(&self) -> Below<'p, 't> {
-        let rest = after_first(self.entries);
+    pub fn below(&self) -> Below<'p, 't>
+        ensures { forms_left result ≡ forms_below (form_listed self.now) }
+    {
         Below {
-            rest,
-            left: rest.len(),
+            rest: after_first(self.entries),
         }
     }
 
-    /// What it holds.
-    pub fn view(&self) -> FormView<'p, 't> {
-        made_view(self.entries)
+    /// Its own entry and those below it, as they stand in the program.
+    pub fn entries(&self) -> &'p [Entry<'t>]
+        ensures { map item result.now ≡ form_listed self.now }
+    {
+        self.entries
     }
 }
 
@@ -90,70 +90,101 @@ pub fn end_of(entries: &[Entry<'_>], at: usize) -> usize
 #[derive(Drop)]
 pub struct Below<'p, 't> {
     rest: &'p [Entry<'t>],
-    left: usize,
 }
 
 impl<'p, 't> Iterator for Below<'p, 't> {
     type Item = FormRef<'p, 't>;
 
-    ghost remaining = { λ s. at_most s.left };
+    ghost use Rattle.std.specs.Iterator.{YieldsFirstBy, item_count};
+    ghost use Rattle.lp_view.specs.PartLists.{form_listed, forms_left};
+
+    ghost next_gives = { YieldsFirstBy form_listed forms_left };
+
+    ghost remaining = { item_count forms_left };
 
     fn next(&mut self) -> Option<FormRef<'p, 't>> {
-        if self.left == 0 {
-            return None;
-        }
-        self.left -= 1;
         let rest = self.rest;
-        let at = first_form(rest);
-        if at >= rest.len() {
-            return None;
+        match first_form(rest) {
+            None => None,
+            Some((at, end)) => {
+                self.rest = &rest[end..];
+                Some(FormRef {
+                    entries: &rest[at..end],
+                })
+            }
         }
-        let end = end_of(rest, at);
-        self.rest = &rest[end..];
-        Some(FormRef {
-            entries: &rest[at..end],
-        })
     }
 }
 
-/// The place of the first form, or the length where there is none.
-fn first_form(entries: &[Entry<'_>]) -> usize
-    ensures { result ≤ length entries.now }
+/// Where the first form of parts stands, with all that is below it.
+fn first_form(entries: &[Entry<'_>]) -> Option<(usize, usize)>
+    ensures within { IfSome result (λ place. (place.0 ≤ place.1) × (place.1 ≤ length entries.now)) }
+    ensures forms { MatchOption result (forms_among (map item entries.now) ≡ []) (λ place. forms_among (map item entries.now) ≡ map item (take (place.1 - place.0) (drop place.0 entries.now)) ∷ forms_among (map item (drop place.1 entries.now))) }
 {
-    for i in 0..entries.len() {
-        if form(entries[i].part).is_some() {
-            return i;
+    for at in 0..entries.len() {
+        if is_form(entries[at].part) {
+            return Some((at, end_of(entries, at)));
         }
     }
-    entries.len()
+    None
 }
 
-/// The place of the first part of a level, at or after a place, that is one of two; or the length.
-pub(crate) fn place_of(entries: &[Entry<'_>], from: usize, first: Part, second: Part) -> usize
-    ensures { result ≤ length entries.now }
+fn is_form(part: Part) -> bool
+    ensures { result ≡ is_form part }
+{
+    form(part).is_some()
+}
+
+/// Which form a part is; the program's, where it is none.
+fn kind_or_program(part: Part) -> FormKind
+    ensures { result ≡ unwrap_or (form_of part) FormKind.Program }
+{
+    form(part).unwrap_or(FormKind::Program)
+}
+
+/// Where the first part stands that is one of two, of those side by side from a place on, with all that is below it.
+pub(crate) fn part_place(
+    entries: &[Entry<'_>],
+    from: usize,
+    first: Part,
+    second: Part,
+) -> Option<(usize, usize)>
+    ensures within { IfSome result (λ place. (place.0 < place.1) × (place.1 ≤ length entries.now)) }
+    ensures part { MatchOption result (either_among first second (map item (drop from entries.now)) ≡ []) (λ place. either_among first second (map item (drop from entries.now)) ≡ map item (take (place.1 - place.0) (drop place.0 entries.now)) ∷ either_among first second (map item (drop place.1 entries.now))) }
 {
     let mut at = from;
     while at < entries.len() {
-        let part = entries[at].part;
-        if part == first || part == second {
-            return at;
+        let end = end_of(entries, at);
+        if is_either(entries[at].part, first, second) {
+            return Some((at, end));
         }
-        at = end_of(entries, at);
+        at = end;
     }
-    entries.len()
+    None
 }
 
-/// The part directly below that is one of two, with all that is below it; empty where there is none.
-pub(crate) fn child<'p, 't>(
-    entries: &'p [Entry<'t>],
-    first: Part,
-    second: Part,
-) -> &'p [Entry<'t>] {
-    let at = place_of(entries, 1, first, second);
-    if at < entries.len() {
-        let end = end_of(entries, at);
-        &entries[at..end]
-    } else {
-        &entries[entries.len()..]
+fn is_either(part: Part, first: Part, second: Part) -> bool
+    ensures { result ≡ is_either part first second }
+{
+    part == first || part == second
+}
+
+/// The first part directly below that is one of two, with all that is below it; empty where there is none.
+pub fn child<'p, 't>(entries: &'p [Entry<'t>], first: Part, second: Part) -> &'p [Entry<'t>]
+    ensures { map item result.now ≡ first_of_either first second (map item entries.now) }
+{
+    match part_place(entries, 1, first, second) {
+        None => &entries[entries.len()..],
+        Some((at, end)) => &entries[at..end],
+    }
+}
+
+/// Whether a part stands directly below.
+pub fn has(entries: &[Entry<'_>], part: Part) -> bool
+    ensures { result ≡ has_below part (map item entries.now) }
+{
+    match first(child(entries, part, part)) {
+        None => false,
+        Some(_) => true,
     }
 }

@@ -1,6 +1,6 @@
 //! What each form holds, for readers.
 
-use crate::row::Rows;
+use lp_view::Rows;
 
 /// The name of a printed function that has a header.
 #[derive(Clone, Copy)]

@@ -1,0 +1,9 @@
+pub mod ActionForms
+pub mod AscentForms
+pub mod Found
+pub mod HeadForms
+pub mod HeldForms
+pub mod HeldPieces
+pub mod MachineForms
+pub mod TableForms
+pub mod ViewTold
