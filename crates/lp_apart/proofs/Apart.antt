@@ -19,7 +19,7 @@ use Rattle.lp_spelling.specs.Fillings.{Fills}
 use Rattle.lp_spelling.specs.LineReading.{kind_of, line_at, AllFill}
 use Rattle.lp_spelling.proofs.Reading.{starts_ok, line_extends}
 use Rattle.lp_found.specs.Found.{are_words}
-use Rattle.lp_apart.specs.Begins.{Lines, member, SomeMember, ReadsFirst, IsUseFirst, StepBegins, StepsBegin, Begins}
+use Rattle.lp_program.specs.Begins.{Lines, member, SomeMember, ReadsFirst, IsUseFirst, StepBegins, StepsBegin, Begins}
 use Rattle.lp_apart.specs.Opens.{StepOpens, StepsOpen, Anything, Opens}
 use Rattle.lp_apart.specs.Signs.{Shows, signs}
 use Rattle.lp_apart.specs.Signs.Sign.{byte, unknown}

@@ -10,7 +10,7 @@ use Rattle.lp_form.specs.declared.part.Part.{Part}
 use Rattle.lp_form.specs.declared.part.Part.TheVariants as part
 use Rattle.lp_form.specs.declared.template.Kind.{Kind}
 use Rattle.lp_found.specs.Found.{are_words}
-use Rattle.lp_apart.specs.Begins.{Lines, member}
+use Rattle.lp_program.specs.Begins.{Lines, member}
 use Rattle.lp_apart.specs.ApartTests.{bound, whole_beginning, lines_apart, apart_within}
 use Rattle.lp_apart.specs.Behind.{Place, ended_classes, places, class_tails, BeginNoMember, BeginNone, NoLines, Follow}
 use Rattle.lp_apart.specs.EndTests.{always, none_begun, place_apart, steps_apart, has_apart_ends}

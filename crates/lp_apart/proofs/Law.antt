@@ -5,7 +5,7 @@ use Rattle.std.proofs.lemmas.Bool.{and_parts}
 use Rattle.lp_form.specs.Classes.{members_of}
 use Rattle.lp_form.specs.declared.part.Part.{Part}
 use Rattle.lp_form.specs.declared.part.Part.TheVariants as part
-use Rattle.lp_apart.specs.Begins.{member}
+use Rattle.lp_program.specs.Begins.{member}
 use Rattle.lp_apart.specs.ApartTests.{is_apart_from, bound, parts_apart}
 use Rattle.lp_apart.specs.Laws.{AlternativesApart}
 use Rattle.lp_apart.proofs.Apart.{all_at, parts_sound}

@@ -19,7 +19,7 @@ use Rattle.lp_spelling.specs.LineHoles.{known_after, known_in}
 use Rattle.lp_found.specs.Found.{LineFound, LinesFound, known_behind}
 use Rattle.lp_found.proofs.Asking.{lines_tell_all}
 use Rattle.lp_found.proofs.Law.{holes_found}
-use Rattle.lp_apart.specs.Begins.{Lines, SomeMember, ReadsFirst, IsUseFirst, StepBegins, StepsBegin, Begins}
+use Rattle.lp_program.specs.Begins.{Lines, SomeMember, ReadsFirst, IsUseFirst, StepBegins, StepsBegin, Begins}
 use Rattle.lp_apart.specs.Opens.{IsFirst, StepOpens, StepsOpen, Anything}
 use Rattle.lp_apart.specs.Laws.{PrintedBegin}
 use Rattle.lp_apart.proofs.Apart.{HolesFill}

@@ -7,7 +7,7 @@ use Rattle.lp_form.specs.Templates as template
 use Rattle.lp_form.specs.declared.class.Class.{Class}
 use Rattle.lp_form.specs.declared.template.Step.{Step}
 use Rattle.lp_form.specs.declared.template.Step.TheVariants as step
-use Rattle.lp_apart.specs.Begins.{Lines, member, SomeMember, Begins}
+use Rattle.lp_program.specs.Begins.{Lines, member, SomeMember, Begins}
 use Rattle.lp_apart.specs.Opens.{StepsOpen, Opens}
 
 -- the class of which a step may have no more parts, though it may have one

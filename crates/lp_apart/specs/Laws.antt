@@ -8,7 +8,7 @@ use Rattle.lp_form.specs.declared.class.Class.{Class}
 use Rattle.lp_form.specs.declared.part.Part.{Part}
 use Rattle.lp_found.specs.Found.{are_words, AreFilled}
 use Rattle.lp_found.specs.Parted.{IsParted}
-use Rattle.lp_apart.specs.Begins.{Lines, member, SomeMember, Begins}
+use Rattle.lp_program.specs.Begins.{Lines, member, SomeMember, Begins}
 use Rattle.lp_apart.specs.Opens.{StepsOpen, Anything, Opens}
 use Rattle.lp_apart.specs.ApartTests.{is_body}
 use Rattle.lp_apart.specs.Behind.{ended_classes, places, class_tails, BeginNone, Follow}

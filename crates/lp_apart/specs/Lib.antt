@@ -1,4 +1,3 @@
-pub mod Begins
 pub mod Opens
 pub mod Signs
 pub mod ApartTests

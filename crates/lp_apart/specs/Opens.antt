@@ -8,7 +8,7 @@ use Rattle.lp_form.specs.declared.template.Step.{Step}
 use Rattle.lp_form.specs.declared.template.Step.TheVariants as step
 use Rattle.lp_spelling.specs.Lines.{line_of}
 use Rattle.lp_found.specs.Found.{AreFilled}
-use Rattle.lp_apart.specs.Begins.{Lines, SomeMember, IsUseFirst}
+use Rattle.lp_program.specs.Begins.{Lines, SomeMember, IsUseFirst}
 
 -- the line stands in front, and behind it what follows
 abbrev pub IsFirst : List ℕ → Lines → (Lines → Type 0) → Type 0

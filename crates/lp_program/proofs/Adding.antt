@@ -78,6 +78,11 @@ reread_yes may a read b e h = subst (λ r. Reread may a r b) e h
 pub reread_no : (may : List Part → Type 0) (a : Reader) (read : Bool) (b : Reader) → read ≡ false → Reread may a read b → SamePlace a b
 reread_no may a read b e h = subst (λ r. Reread may a r b) e h
 
+-- if something else holds too
+pub brings_when : (may : List Part → Type 0) (a : Reader) (holds : Bool) (b : Reader) → Brings may a true b → Brings may a holds b
+brings_when may a true b x = x
+brings_when may a false b x = record { extends = x.extends; adds = tt }
+
 -- at `true`, or at `false`
 pub brings_at : (may : List Part → Type 0) (a : Reader) (read is : Bool) (b : Reader) → read ≡ is → Brings may a read b → Brings may a is b
 brings_at may a read is b e x = subst (λ r. Brings may a r b) e x
@@ -251,7 +256,7 @@ part_start part g r p h = record {
 pub step_count : (items : List HeldStep) (ss : List template.Line) → template.lines_of items ≡ ss → length items ≡ length ss
 step_count items ss e = sym (length-map items template.line) ∙ ap length e
 
-step_there : (items : List HeldStep) (ss : List template.Line) (i : ℕ) (d : HeldStep) → template.lines_of items ≡ ss → i < length items →
+pub step_there : (items : List HeldStep) (ss : List template.Line) (i : ℕ) (d : HeldStep) → template.lines_of items ≡ ss → i < length items →
     template.line (get_or items i d) ≡ get_or ss i (template.line (get_or items i d))
 step_there items ss i d e lt =
     let s = template.line (get_or items i d) in
@@ -308,7 +313,7 @@ pub part_not : (part p : Part) (g h : Growing) (a b : Reader) (read : Bool) (c :
 part_not part p g h a b read c o x = brings_not (IsPart part) a c (extends_then a b c (opened_extends part g a b o) x.extends)
 
 -- a part that is put in among others
-put_in : (old more new : List Entry) (first : Entry) (g : Growing) (at : ℕ) (f : FilledAt at g (old ++ first ∷ more) new) → at ≡ length old →
+pub put_in : (old more new : List Entry) (first : Entry) (g : Growing) (at : ℕ) (f : FilledAt at g (old ++ first ∷ more) new) → at ≡ length old →
     (new ≡ old ++ f.entry ∷ more) × IsFilled first g (length more) f.entry
 put_in old more new first g at f e = (
   f.entries_are ∙ ap (λ i. set (old ++ first ∷ more) i f.entry) e ∙ set-append_seam old first more f.entry,
@@ -362,7 +367,7 @@ bare_none : (es : List Entry) → forest es ≡ bare → es ≡ []
 bare_none [] h = refl
 bare_none (e ∷ es) h = let t = sym (forest-first e es) ∙ h in cc t
 
-whole_one : (es : List Entry) (c : Content) (below : Forest) → forest es ≡ tree c below bare → whole es ≡ tree c below bare
+pub whole_one : (es : List Entry) (c : Content) (below : Forest) → forest es ≡ tree c below bare → whole es ≡ tree c below bare
 whole_one [] c below h = let t = sym forest-none ∙ h in cc t
 whole_one (e ∷ es) c below h =
     let t = sym (forest-first e es) ∙ h in

@@ -1,4 +1,6 @@
 pub mod Adding
+pub mod Beginning
+pub mod Picking
 pub mod Looking
 pub mod Forests
 pub mod Grafts
@@ -10,3 +12,18 @@ pub mod Rows
 pub mod Runs
 pub mod Stepping
 pub mod Taking
+pub mod Cuts
+pub mod Once
+pub mod Telling
+pub mod Prefixes
+pub mod Settling
+pub mod Parameters
+pub mod Answering
+pub mod Chosen
+pub mod Existing
+pub mod Found
+pub mod Held
+pub mod Many
+pub mod Opened
+pub mod Steps
+pub mod Whole

@@ -16,6 +16,7 @@ use Rattle.lp_program.specs.declared.read.growing.Growing.{Growing}
 use Rattle.lp_program.specs.declared.read.reader.Reader.{Reader}
 use Rattle.lp_program.specs.Growing.{Grows, MayBecome, IsFilled}
 use Rattle.lp_program.specs.Printed.{is_member}
+use Rattle.lp_program.specs.Telling.{told, untold}
 use Rattle.lp_program.specs.Trees.{Content, Forest, forest, tree_count}
 use Rattle.lp_program.specs.Reads.{graft, parts_in, may_have, Reads, TakesOwn}
 use Rattle.lp_program.specs.Reads.Task.{trees, steps}
@@ -118,9 +119,10 @@ pub record Opened (part : Part) (old new : Reader) (g : Growing) : Type 0 where
   pub cursor_is : new.cursor ≡ old.cursor
   pub first : Entry
   pub first_is : first.part ≡ part
+  pub notes_are : first.notes.items ≡ []
   pub entries_are : new.entries.items ≡ old.entries.items ++ first ∷ []
   pub part_is : g.part ≡ part
-  pub none : g.holes.items ≡ []
+  pub none : told g ≡ untold
 
 -- the part at a place is filled, over all parts behind it
 pub record FilledAt (at : ℕ) (g : Growing) (old new : List Entry) : Type 0 where

@@ -28,4 +28,5 @@ pub record IsFilled (old : Entry) (growing : Growing) (below : ℕ) (new : Entry
   pub part_is : new.part ≡ old.part
   pub holes_are : new.holes ≡ growing.holes
   pub numbers_are : new.numbers ≡ growing.numbers
+  pub notes_are : new.notes ≡ old.notes
   pub below_is : new.below ≡ below

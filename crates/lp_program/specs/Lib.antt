@@ -8,3 +8,10 @@ pub mod Taking
 pub mod Reads
 pub mod Growing
 pub mod Adding
+pub mod Begins
+pub mod Looking
+pub mod Telling
+pub mod Prefixes
+pub mod Parameters
+pub mod Choosing
+pub mod Answering

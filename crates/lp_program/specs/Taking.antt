@@ -1,8 +1,10 @@
 -- What is taken off a text at a cursor.
-use Rattle.std.specs.Prelude.{◌≡◌, Some, None}
+use Rattle.std.specs.Prelude.{◌≡◌, ℕ, List, Option, Some, None}
+use Rattle.std.specs.Str.{IsUtf8}
 use Rattle.lp_spelling.specs.Cursors.{left, IsTaken}
 use Rattle.lp_spelling.specs.TableReading.{entries}
 use Rattle.lp_spelling.specs.declared.cursor.Cursor.{Cursor}
+use Rattle.lp_program.specs.declared.read.taking.Taken.{Taken}
 use Rattle.lp_program.specs.declared.read.taking.TakenTable.{TakenTable}
 use Rattle.lp_program.specs.declared.read.taking.TakenTable.TheVariants as found
 
@@ -10,3 +12,8 @@ use Rattle.lp_program.specs.declared.read.taking.TakenTable.TheVariants as found
 abbrev pub IsTakenTable : Cursor → TakenTable → Type 0
 IsTakenTable old (found.Whole numbers new) = IsTaken old new × (entries (left old) ≡ Some (numbers.items, left new))
 IsTakenTable old (found.Broken place) = entries (left old) ≡ None
+
+-- what the code answers of a text of its own at a cursor: it and what is left, or that none is there behind which a character begins
+abbrev pub IsTakenText : (List ℕ → List ℕ → Type 0) → Option Taken → Type 0
+IsTakenText IsText None = (text rest : List ℕ) → IsUtf8 rest → IsText text rest → ⊥
+IsTakenText IsText (Some taken) = IsText taken.text.now (left taken.next) × IsUtf8 (left taken.next)

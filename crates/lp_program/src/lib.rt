@@ -10,6 +10,6 @@ pub use lp_texts as check_texts;
 pub use lp_texts::{TextFault, TextKind, TextPlace};
 pub use lp_tree::{Name, Node, Piece, Program, RowNote, piece, tree};
 pub use lp_view as view;
-pub use lp_view::{FormRef, FormView, count, form_count, form_number, node_count};
+pub use lp_view::{FormRef, count, form_count, form_number, node_count};
 pub use print::{print_node, print_program};
 pub use read::{ReadFault, read_program};

@@ -21,7 +21,7 @@ use Rattle.lp_program.specs.Reads.Reads.{no_tree, one_tree, no_step, one_step}
 use Rattle.lp_found.specs.Found.{are_words, LineFound, LinesFound, known_behind}
 use Rattle.lp_found.proofs.Asking.{lines_tell_all}
 use Rattle.lp_found.proofs.Law.{holes_found}
-use Rattle.lp_apart.specs.Begins.{Lines, member, SomeMember, ReadsFirst, IsUseFirst, StepBegins, StepsBegin, Begins}
+use Rattle.lp_program.specs.Begins.{Lines, member, SomeMember, ReadsFirst, IsUseFirst, StepBegins, StepsBegin, Begins}
 use Rattle.lp_apart.proofs.Apart.{HolesFill, all_at}
 use Rattle.lp_apart.proofs.Printed.{behind_grows, is_bare, are_bare, templates_bare, none_known, taken_fill}
 use Rattle.lp_shown.specs.TextLines.{HasLines}
@@ -122,7 +122,7 @@ step_begun prefix c pieces others count more later text own mid rest (step.One c
 step_begun prefix c pieces others count more later text own mid rest _ now may takes same first begun lines h depth k seen f one l small b bares fits = tt
 
 -- trees in front of others
-parted_parts : (prefix : List ℕ) (now later : Forest) → AreParted prefix (graft now later) → AreParted prefix now × AreParted prefix later
+pub parted_parts : (prefix : List ℕ) (now later : Forest) → AreParted prefix (graft now later) → AreParted prefix now × AreParted prefix later
 parted_parts prefix bare later h = (tt, h)
 parted_parts prefix (tree c below after) later h = let r = parted_parts prefix after later h.2 in ((h.0, h.1, r.0), r.1)
 

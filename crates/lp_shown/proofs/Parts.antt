@@ -9,7 +9,7 @@ use Rattle.lp_form.specs.contracts.part.PartEq.TheImpl.Laws.{laws-law}
 use Rattle.lp_form.specs.declared.part.Part.{Part}
 use Rattle.lp_form.specs.declared.part.Part.TheVariants as part
 use Rattle.lp_program.specs.Printed.{is_member}
-use Rattle.lp_apart.specs.Begins.{member}
+use Rattle.lp_program.specs.Begins.{member}
 
 -- all parts
 abbrev all : List Part

@@ -21,7 +21,7 @@ use Rattle.lp_program.specs.Reads.Task.{trees, steps}
 use Rattle.lp_program.specs.Reads.Reads.{no_tree, one_tree, no_step, one_step}
 use Rattle.lp_found.specs.Found.{AreFilled}
 use Rattle.lp_found.proofs.Places.{begins_within}
-use Rattle.lp_apart.specs.Begins.{Lines, SomeMember, IsUseFirst}
+use Rattle.lp_program.specs.Begins.{Lines, SomeMember, IsUseFirst}
 use Rattle.lp_apart.specs.Opens.{Anything, IsFirst, StepOpens, StepsOpen, Opens}
 use Rattle.lp_shown.specs.TextLines.{HasLines}
 use Rattle.lp_shown.specs.TextLines.HasLines.{no_line, one_line}

@@ -12,7 +12,7 @@ use Rattle.lp_program.specs.Reads.{Reads}
 use Rattle.lp_program.specs.Reads.Task.{trees, steps}
 use Rattle.lp_found.specs.Found.{are_words, AreFilled}
 use Rattle.lp_found.specs.Parted.{IsParted}
-use Rattle.lp_apart.specs.Begins.{Lines, member, Begins}
+use Rattle.lp_program.specs.Begins.{Lines, member, Begins}
 use Rattle.lp_apart.specs.Opens.{Opens}
 use Rattle.lp_apart.specs.ApartTests.{is_body}
 use Rattle.lp_apart.specs.Behind.{ended_classes, places, class_tails, BeginNone}

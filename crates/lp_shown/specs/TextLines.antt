@@ -1,7 +1,7 @@
 -- The lines of a text that count, without the blanks in front.
 use Rattle.std.specs.Prelude.{◌≡◌, ℕ, ◌<◌, List, [], ◌∷◌, length}
 use Rattle.lp_spelling.specs.Counting.{settled, front_line, behind_line}
-use Rattle.lp_apart.specs.Begins.{Lines}
+use Rattle.lp_program.specs.Begins.{Lines}
 
 -- none is left; or the next one, and those of the text behind it
 pub data HasLines : List ℕ → Lines → Type 0 where

@@ -23,7 +23,7 @@ blocks_more program params lines n line before text course at h runs f =
 pub first_without :
     (text : Text) (program : Program) (params : List Text) (lines : List TokenLine) (place : ℕ) (line : TokenLine) (before : List ℕ) (why : TextRunFault) →
     ReadsAs text program → slice_get lines place ≡ Some line → AreBlocks program params lines place before → IsLineFault program params line (place + 1) why → IsRunFault text params lines why
-first_without text program params lines place line before (fault.NoForm at) r s b f = tt
+first_without text program params lines place line before (fault.NoForm at) r s b f = absurd f
 first_without text program params lines place line before (fault.NoStart at) r s b f = (program, place, r, (line, before, s, b, f))
 first_without text program params lines place line before (fault.ParameterCount at) r s b f = (program, place, r, (line, before, s, b, f))
 first_without text program params lines place line before fault.Memory r s b f = tt

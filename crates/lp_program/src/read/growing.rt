@@ -9,6 +9,8 @@ ghost use Rattle.lp_spelling.specs.Cursors.{left, IsTaken};
 ghost use Rattle.lp_program.specs.CodeReading.{IsUse, IsCode};
 ghost use Rattle.lp_program.specs.Reads.{TakesLine, TakesLines};
 ghost use Rattle.lp_program.specs.Growing.{Grows, MayBecome};
+ghost use Rattle.lp_program.specs.Looking.{AnswersLine, OfLines};
+ghost use Rattle.lp_program.specs.Telling.{told, TellsLine, TellsLines, TellsText, Answers, AnswersPlace};
 
 use crate::read::taking::{take_code, take_use};
 use lp_form::Part;
@@ -29,6 +31,22 @@ pub(crate) struct Growing<'t> {
     pub(crate) tabled: bool,
 }
 
+/// Whether the next line is spelled by the pieces. The holes that it tells are added to those that are
+/// known.
+pub(crate) fn line_fits<'t>(
+    scope: Scope<'_>,
+    pieces: &[LinePart],
+    known: &mut Vec<Piece<'t>>,
+    cursor: Cursor<'t>,
+) -> Result<bool, AllocError>
+    ensures { IfOk result (λ b. OfLines (left cursor.entry) (AnswersLine scope.entry.prefix.now scope.entry.kinds.now (map piece pieces.now) known.old.items known.new.items b)) }
+{
+    match cursor.line() {
+        Some(line) => read_line(scope, pieces, known, line),
+        None => Ok(false),
+    }
+}
+
 /// Takes a line that the pieces spell, and gives the place behind it.
 pub(crate) fn line_step<'t>(
     scope: Scope<'_>,
@@ -40,6 +58,7 @@ pub(crate) fn line_step<'t>(
     ensures same { IfOk result (λ r. IfSome r (IsTaken cursor.entry)) }
     ensures grows { IfOk result (λ r. IfSome r (λ next. Grows scope.entry.prefix.now growing.old growing.new)) }
     ensures takes { IfOk result (λ r. IfSome r (λ next. (c : _) → MayBecome growing.new c → TakesLine (line_of scope.entry.prefix.now c.holes (map piece pieces.now)) (left cursor.entry) (left next))) }
+    ensures tells { IfOk result (AnswersPlace (λ new rest. TellsLine scope.entry.prefix.now scope.entry.kinds.now (map piece pieces.now) (told growing.old) new (left cursor.entry) rest) growing.new) }
 {
     let Some(line) = cursor.line() else {
         return Ok(None);
@@ -62,6 +81,7 @@ pub(crate) fn lines_step<'t>(
     ensures same { IfOk result (λ r. IsTaken cursor.entry r.0) }
     ensures grows { IfOk result (λ r. OnTrue r.1 (Grows scope.entry.prefix.now growing.old growing.new)) }
     ensures takes { IfOk result (λ r. OnTrue r.1 ((c : _) → MayBecome growing.new c → TakesLines count (line_of scope.entry.prefix.now c.holes (map piece pieces.now)) (left cursor.entry) (left r.0))) }
+    ensures tells { IfOk result (λ r. Answers (λ new rest. TellsLines count scope.entry.prefix.now scope.entry.kinds.now (map piece pieces.now) (told growing.old) new (left cursor.entry) rest) r.1 (told growing.new) (left r.0)) }
 {
     let mut place = cursor;
     for _i in 0..count {
@@ -83,6 +103,7 @@ pub(crate) fn use_step<'t>(
     ensures same { IfOk result (λ r. IfSome r (IsTaken cursor.entry)) }
     ensures grows { IfOk result (λ r. IfSome r (λ next. (prefix : List ℕ) → Grows prefix growing.old growing.new)) }
     ensures takes { IfOk result (λ r. IfSome r (λ next. (c : _) → MayBecome growing.new c → IsUse (left cursor.entry) (hole c 0) (left next))) }
+    ensures tells { IfOk result (AnswersPlace (TellsText growing.old.part (IsUse (left cursor.entry)) (told growing.old)) growing.new) }
 {
     let Some(taken) = take_use(cursor) else {
         return Ok(None);
@@ -103,6 +124,7 @@ pub(crate) fn code_step<'t>(
     ensures same { IfOk result (λ r. IfSome r (IsTaken cursor.entry)) }
     ensures grows { IfOk result (λ r. IfSome r (λ next. (prefix : List ℕ) → Grows prefix growing.old growing.new)) }
     ensures takes { IfOk result (λ r. IfSome r (λ next. (c : _) → MayBecome growing.new c → IsCode (left cursor.entry) (hole c 0) (left next))) }
+    ensures tells { IfOk result (AnswersPlace (TellsText growing.old.part (IsCode (left cursor.entry)) (told growing.old)) growing.new) }
 {
     let Some(taken) = take_code(cursor) else {
         return Ok(None);

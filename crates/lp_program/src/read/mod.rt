@@ -6,4 +6,4 @@ mod reader;
 mod taking;
 mod told;
 
-pub use reader::{ReadFault, read_program};
+pub use reader::{Parameters, ReadFault, read_program};

@@ -1,6 +1,7 @@
 //! The prefix that a text shows.
 
-ghost use Rattle.std.specs.Prelude.{◌≡◌, true, IfSome};
+ghost use Rattle.std.specs.Prelude.{◌≡◌, ℕ, true, List, MatchOption, IfSome};
+ghost use Rattle.lp_program.specs.Prefixes.{renamed, ShowsPrefix};
 ghost use Rattle.lp_program.specs.Reads.{is_prefix};
 
 use crate::read::taking::take_use;
@@ -14,7 +15,8 @@ pub(crate) const NO_PREFIX: &str = "\n";
 /// The prefix of a name of the standard uses, with what follows it on the line: it isn't empty, and
 /// what it makes of `lalrpop_util` is an identifier.
 fn prefix_in(shown: &str) -> Option<&str>
-    ensures { IfSome result (λ prefix. is_prefix prefix.now ≡ true) }
+    ensures fits { IfSome result (λ prefix. is_prefix prefix.now ≡ true) }
+    ensures exact { MatchOption result ((prefix : List ℕ) → shown.now ≡ renamed prefix → is_prefix prefix ≡ true → ⊥) (λ prefix. shown.now ≡ renamed prefix.now) }
 {
     let Some(name) = shown.strip_suffix(";") else {
         return None;
@@ -33,7 +35,8 @@ fn prefix_in(shown: &str) -> Option<&str>
 
 /// The prefix that the standard uses show.
 pub(crate) fn prefix_of(text: &str) -> Option<&str>
-    ensures { IfSome result (λ prefix. is_prefix prefix.now ≡ true) }
+    ensures fits { IfSome result (λ prefix. is_prefix prefix.now ≡ true) }
+    ensures exact { MatchOption result ((prefix : List ℕ) → ShowsPrefix prefix text.now → ⊥) (λ prefix. ShowsPrefix prefix.now text.now) }
 {
     let mut cursor = Cursor::new(text);
     for _i in 0..text.len() {

@@ -1,26 +1,35 @@
 //! The reader of programs: by the templates of the parts, from the front of the text on.
 
-ghost use Rattle.std.specs.Prelude.{◌≡◌, ℕ, ◌<◌, ◌+◌, true, Some, List, [], length, IsTrue, IfOk, OnOk, IfSome};
-ghost use Rattle.std.specs.Bool.{OnTrue};
-ghost use Rattle.lp_form.specs.Templates.{holes_of};
+ghost use Rattle.std.specs.Prelude.{◌≡◌, ℕ, ◌<◌, ◌+◌, ◌++◌, true, Some, None, List, [], length, drop, map, codes, IsTrue, MatchResult, IfErr, IfOk, OnOk, IfSome};
+ghost use Rattle.std.specs.Bool.{Decides, OnTrue};
+ghost use Rattle.lp_form.specs.Templates.{holes_of, steps_of};
 ghost use Rattle.lp_form.specs.Templates as template;
 ghost use Rattle.lp_form.specs.declared.class.Class.TheVariants as class_of;
 ghost use Rattle.lp_form.specs.declared.part.Part.TheVariants as part_of;
 ghost use Rattle.lp_form.specs.declared.template.Step.TheVariants as step_of;
-ghost use Rattle.lp_spelling.specs.Counting.{settled};
+ghost use Rattle.lp_spelling.specs.Counting.{front_line, settled};
 ghost use Rattle.lp_spelling.specs.Cursors.{left};
 ghost use Rattle.lp_program.specs.Adding.{kids, Adds, Brings, FilledAt, IsPair, IsPart, MayHave, Opened, OwnTaken, Reread, StepBrings, StepsBring, WholeRead};
+ghost use Rattle.lp_program.specs.Answering.{AnswersTrees, AnswersSteps, held};
+ghost use Rattle.lp_program.specs.Begins.{Begins, IsUseFirst};
+ghost use Rattle.lp_program.specs.Choosing.{AnyChosen, Below, BodyChosen, ClassChosen, EitherChosen, InlinedChosen, IsChosen, IsRefused, MemberChosen, OptionalChosen, PairChosen, PartChosen, PartSteps, SeenLines, StepChosen, WholeChosen};
+ghost use Rattle.lp_program.specs.CodeReading.{IsUse, IsCode};
+ghost use Rattle.lp_program.specs.Looking.{Chooses, OfLines, Picks};
+ghost use Rattle.lp_program.specs.Parameters.{first_or, last_parameter, parameter_after, parameters_of};
 ghost use Rattle.lp_program.specs.Printed.{is_member};
 ghost use Rattle.lp_program.specs.Reads.{ReadsAs};
+ghost use Rattle.lp_program.specs.Telling.{AnswersOwn, OwnTold, StepTells, TellsTable, TellsText, told, untold};
+ghost use Rattle.lp_program.specs.Trees.{content};
+ghost use Rattle.lp_program.specs.Trees.Forest.{bare};
 
 use crate::print::own::tree_count;
-use crate::read::growing::{Growing, code_step, line_step, lines_step, use_step};
+use crate::read::growing::{Growing, code_step, line_fits, line_step, lines_step, use_step};
 use crate::read::prefix::{NO_PREFIX, prefix_of};
 use crate::read::taking::{TakenTable, cut_line, take_entries};
 use crate::read::told::{is_blank_part, is_told};
 use lp_form::{Class, Line, Part, Step, holes, members, steps};
 use lp_spelling::cursor::Cursor;
-use lp_spelling::line::{Scope, read_line};
+use lp_spelling::line::Scope;
 use lp_tree::piece::Piece;
 use lp_tree::tree::{Entry, Program};
 use std::alloc::{AllocError, Global};
@@ -36,6 +45,11 @@ pub enum ReadFault {
 }
 
 impl From<AllocError> for ReadFault {
+    ghost use Rattle.std.specs.Prelude.{◌≡◌};
+    ghost use Rattle.lp_program.specs.declared.read.reader.ReadFault.TheVariants.{Memory};
+
+    ghost from_gives = { λ _ e. e ≡ Memory };
+
     fn from(_error: AllocError) -> ReadFault {
         ReadFault::Memory
     }
@@ -59,7 +73,9 @@ struct Reader<'t> {
 /// attributes, blanks at the front of a line, empty lines and comment lines don't count; in table
 /// rows neither do blanks, line ends and what follows `//` after an entry.
 pub fn read_program<'t>(alloc: Global, text: &'t str) -> Result<Program<'t>, ReadFault>
-    ensures { IfOk result (ReadsAs text.now) }
+    ensures reads { IfOk result (ReadsAs text.now) }
+    ensures chosen { IfOk result (IsChosen text.now) }
+    ensures refused { IfErr result (IsRefused text.now) }
 {
     let shown = prefix_of(text);
     let mut reader = Reader {
@@ -103,10 +119,19 @@ impl<'t> Reader<'t> {
         }
     }
 
+    /// What is left of the text.
+    fn ahead(&self) -> &'t str
+        ensures { result.now ≡ left self.now.cursor }
+    {
+        let (_, rest) = self.cursor.text().split_at(self.cursor.raw());
+        rest
+    }
+
     /// Whether nothing is left that counts.
     fn at_end(&mut self) -> bool
         ensures kept { self.new ≡ record self.old { worst = self.new.worst } }
         ensures none { IsTrue result → settled (left self.old.cursor) ≡ [] }
+        ensures exact { settled (left self.old.cursor) ≡ [] → result ≡ true }
     {
         if self.cursor.line().is_none() {
             return true;
@@ -118,7 +143,8 @@ impl<'t> Reader<'t> {
 
     /// Reads a whole program, after which nothing is left that counts.
     fn read_whole(&mut self) -> Result<bool, AllocError>
-        ensures { IfOk result (λ b. OnTrue b (WholeRead self.old self.new)) }
+        ensures reads { IfOk result (λ b. OnTrue b (WholeRead self.old self.new)) }
+        ensures chosen { IfOk result (λ b. AnswersTrees (WholeChosen self.old.prefix.now) self.old b self.new) }
     {
         if !self.read_part(DEPTH, Part::Program)? {
             return Ok(false);
@@ -129,7 +155,8 @@ impl<'t> Reader<'t> {
     /// Reads a part with all below it.
     #[cycle(reading)]
     fn read_part(&mut self, depth: usize, part: Part) -> Result<bool, AllocError>
-        ensures { IfOk result (λ b. Brings (IsPart part) self.old b self.new) }
+        ensures reads { IfOk result (λ b. Brings (IsPart part) self.old b self.new) }
+        ensures chosen { IfOk result (λ b. AnswersTrees (PartChosen depth self.old.prefix.now part) self.old b self.new) }
     {
         if depth == 0 {
             return Ok(false);
@@ -188,8 +215,9 @@ impl<'t> Reader<'t> {
         growing: &mut Growing<'t>,
     ) -> Result<bool, AllocError>
         requires at { at + 1 ≡ length self.old.entries.items }
-        requires none { growing.old.holes.items ≡ [] }
-        ensures { IfOk result (λ b. StepsBring growing.old.part growing.new self.old b self.new) }
+        requires none { told growing.old ≡ untold }
+        ensures reads { IfOk result (λ b. StepsBring growing.old.part growing.new self.old b self.new) }
+        ensures chosen { IfOk result (λ b. AnswersSteps (PartSteps depth self.old.prefix.now (PartChosen depth self.old.prefix.now) growing.old.part) (told growing.new) self.old b self.new) }
     {
         for step in steps(growing.part) {
             if !self.read_step(depth, at, *step, growing)? {
@@ -209,7 +237,8 @@ impl<'t> Reader<'t> {
         growing: &mut Growing<'t>,
     ) -> Result<bool, AllocError>
         requires { at < length self.old.entries.items }
-        ensures { IfOk result (λ b. StepBrings at (template.line step.entry) growing.old growing.new self.old b self.new) }
+        ensures reads { IfOk result (λ b. StepBrings at (template.line step.entry) growing.old growing.new self.old b self.new) }
+        ensures chosen { IfOk result (λ b. AnswersSteps (StepChosen (Below depth self.old.prefix.now) self.old.prefix.now growing.old.part (kids at self.old) (held at self.old) (template.line step.entry) (told growing.old)) (told growing.new) self.old b self.new) }
     {
         if !self.read_own(at, step, growing)? {
             return Ok(false);
@@ -227,6 +256,7 @@ impl<'t> Reader<'t> {
         requires { at < length self.old.entries.items }
         ensures kept { OnOk result (self.new ≡ record self.old { cursor = self.new.cursor; worst = self.new.worst }) }
         ensures takes { IfOk result (λ b. OnTrue b (OwnTaken self.old.prefix.now growing.old growing.new (kids at self.old) (template.line step.entry) (left self.old.cursor) (left self.new.cursor))) }
+        ensures tells { IfOk result (λ b. OwnTold self.old.prefix.now growing.old (kids at self.old) (template.line step.entry) (left self.old.cursor) b growing.new (left self.new.cursor)) }
     {
         match self.own_taken(at, step, growing)? {
             Ok(next) => {
@@ -248,7 +278,8 @@ impl<'t> Reader<'t> {
         growing: &mut Growing<'t>,
     ) -> Result<Result<Cursor<'t>, usize>, AllocError>
         requires { at < length self.now.entries.items }
-        ensures { IfOk result (λ r. IfOk r (λ next. OwnTaken self.now.prefix.now growing.old growing.new (kids at self.now) (template.line step.entry) (left self.now.cursor) (left next))) }
+        ensures takes { IfOk result (λ r. IfOk r (λ next. OwnTaken self.now.prefix.now growing.old growing.new (kids at self.now) (template.line step.entry) (left self.now.cursor) (left next))) }
+        ensures tells { IfOk result (AnswersOwn (StepTells self.now.prefix.now growing.old (kids at self.now) (template.line step.entry) (left self.now.cursor)) growing.new) }
     {
         match step.0 {
             Step::Line(_) => {
@@ -280,7 +311,7 @@ impl<'t> Reader<'t> {
 
     /// A place, or else the next line, which doesn't fit.
     fn or_misfit(&self, next: Option<Cursor<'t>>) -> Result<Cursor<'t>, usize>
-        ensures { IfOk result (λ place. next.entry ≡ Some place) }
+        ensures { MatchResult result (λ place. next.entry ≡ Some place) (λ line. next.entry ≡ None) }
     {
         match next {
             Some(place) => Ok(place),
@@ -298,7 +329,8 @@ impl<'t> Reader<'t> {
 
     /// The place behind a use, or the line that doesn't fit.
     fn use_taken(&self, growing: &mut Growing<'t>) -> Result<Result<Cursor<'t>, usize>, AllocError>
-        ensures { IfOk result (λ r. IfOk r (λ next. (count : ℕ) (pieces : List template.Piece) → OwnTaken self.now.prefix.now growing.old growing.new count (step_of.Use, pieces) (left self.now.cursor) (left next))) }
+        ensures takes { IfOk result (λ r. IfOk r (λ next. (count : ℕ) (pieces : List template.Piece) → OwnTaken self.now.prefix.now growing.old growing.new count (step_of.Use, pieces) (left self.now.cursor) (left next))) }
+        ensures tells { IfOk result (AnswersOwn (TellsText growing.old.part (IsUse (left self.now.cursor)) (told growing.old)) growing.new) }
     {
         if !is_blank_part(growing) {
             return Ok(Err(0));
@@ -314,7 +346,8 @@ impl<'t> Reader<'t> {
 
     /// The place behind user code, or the line that doesn't fit.
     fn code_taken(&self, growing: &mut Growing<'t>) -> Result<Result<Cursor<'t>, usize>, AllocError>
-        ensures { IfOk result (λ r. IfOk r (λ next. (count : ℕ) (pieces : List template.Piece) → OwnTaken self.now.prefix.now growing.old growing.new count (step_of.Code, pieces) (left self.now.cursor) (left next))) }
+        ensures takes { IfOk result (λ r. IfOk r (λ next. (count : ℕ) (pieces : List template.Piece) → OwnTaken self.now.prefix.now growing.old growing.new count (step_of.Code, pieces) (left self.now.cursor) (left next))) }
+        ensures tells { IfOk result (AnswersOwn (TellsText growing.old.part (IsCode (left self.now.cursor)) (told growing.old)) growing.new) }
     {
         if !is_blank_part(growing) {
             return Ok(Err(0));
@@ -330,7 +363,8 @@ impl<'t> Reader<'t> {
         &self,
         growing: &mut Growing<'t>,
     ) -> Result<Result<Cursor<'t>, usize>, AllocError>
-        ensures { IfOk result (λ r. IfOk r (λ next. (count : ℕ) (pieces : List template.Piece) → OwnTaken self.now.prefix.now growing.old growing.new count (step_of.Entries, pieces) (left self.now.cursor) (left next))) }
+        ensures takes { IfOk result (λ r. IfOk r (λ next. (count : ℕ) (pieces : List template.Piece) → OwnTaken self.now.prefix.now growing.old growing.new count (step_of.Entries, pieces) (left self.now.cursor) (left next))) }
+        ensures tells { IfOk result (AnswersOwn (λ new rest. TellsTable (told growing.old) new (left self.now.cursor) rest) growing.new) }
     {
         if growing.tabled {
             return Ok(Err(0));
@@ -349,7 +383,9 @@ impl<'t> Reader<'t> {
     /// Reads the parts that a step has.
     #[cycle(reading)]
     fn read_below(&mut self, depth: usize, at: usize, step: Step) -> Result<bool, AllocError>
-        ensures { IfOk result (λ b. Brings (MayHave step) self.old b self.new) }
+        requires { at < length self.old.entries.items }
+        ensures reads { IfOk result (λ b. Brings (MayHave step) self.old b self.new) }
+        ensures chosen { IfOk result (λ b. AnswersTrees (Below depth self.old.prefix.now step (held at self.old)) self.old b self.new) }
     {
         match step {
             Step::One(class) => self.read_class(depth, at, class),
@@ -371,7 +407,8 @@ impl<'t> Reader<'t> {
     /// Whether the lines in front begin the part.
     #[cycle(looking)]
     fn begins(&mut self, depth: usize, part: Part) -> Result<bool, AllocError>
-        ensures { OnOk result (self.new ≡ record self.old { worst = self.new.worst }) }
+        ensures kept { OnOk result (self.new ≡ record self.old { worst = self.new.worst }) }
+        ensures exact { IfOk result (λ b. OfLines (left self.old.cursor) (λ lines. Decides b (Begins depth self.old.prefix.now part lines))) }
     {
         if depth == 0 {
             return Ok(false);
@@ -383,19 +420,17 @@ impl<'t> Reader<'t> {
         for step in steps(part) {
             match step.0 {
                 Step::Line(_) => {
-                    let fits = match cursor.line() {
-                        Some(line) => read_line(scope, step.1, &mut known, line)?,
-                        None => false,
-                    };
-                    if !fits {
+                    if !line_fits(scope, step.1, &mut known, cursor)? {
                         self.miss(cursor.number());
                         return Ok(false);
                     }
                     cursor = cursor.after_line();
                     lines = true;
                 }
-                Step::Empty | Step::Note | Step::NoteAlways => {}
-                Step::Use => return Ok(self.begins_use()),
+                Step::Empty => {}
+                Step::Note => {}
+                Step::NoteAlways => {}
+                Step::Use => return Ok(self.begins_use(cursor)),
                 Step::One(class) => {
                     return Ok(lines || self.pick(depth - 1, class)?.is_some());
                 }
@@ -405,15 +440,15 @@ impl<'t> Reader<'t> {
         Ok(true)
     }
 
-    /// Whether the next line begins a use.
-    fn begins_use(&mut self) -> bool
-        ensures { self.new ≡ record self.old { worst = self.new.worst } }
+    /// Whether the next line at a place begins a use.
+    fn begins_use(&mut self, cursor: Cursor<'t>) -> bool
+        ensures kept { self.new ≡ record self.old { worst = self.new.worst } }
+        ensures exact { OfLines (left cursor.entry) (λ lines. Decides result (IsUseFirst lines)) }
     {
-        match self.cursor.line() {
+        match cursor.line() {
             Some(line) if line.starts_with("use ") => true,
             _ => {
-                let line = self.cursor.number();
-                self.miss(line);
+                self.miss(cursor.number());
                 false
             }
         }
@@ -424,6 +459,7 @@ impl<'t> Reader<'t> {
     fn pick(&mut self, depth: usize, class: Class) -> Result<Option<Part>, AllocError>
         ensures kept { OnOk result (self.new ≡ record self.old { worst = self.new.worst }) }
         ensures member { IfOk result (λ r. IfSome r (λ part. is_member class part ≡ true)) }
+        ensures exact { IfOk result (λ r. OfLines (left self.old.cursor) (Picks depth self.old.prefix.now class r)) }
     {
         for part in members(class) {
             if self.begins(depth, *part)? {
@@ -437,7 +473,11 @@ impl<'t> Reader<'t> {
     fn choose(&mut self, depth: usize, class: Class) -> Result<Option<Part>, AllocError>
         ensures kept { OnOk result (self.new ≡ record self.old { worst = self.new.worst }) }
         ensures member { IfOk result (λ r. IfSome r (λ part. is_member class part ≡ true)) }
+        ensures exact { IfOk result (λ r. OfLines (left self.old.cursor) (Chooses depth self.old.prefix.now class r)) }
+        ensures seen { IfOk result (λ r. SeenLines (left self.old.cursor) (Chooses depth self.old.prefix.now class r)) }
     {
+        // Its lines are there.
+        let _ahead = self.ahead();
         let parts = members(class);
         if parts.len() == 1 {
             return Ok(Some(parts[0]));
@@ -448,7 +488,9 @@ impl<'t> Reader<'t> {
     /// Reads one part of a class.
     #[cycle(reading)]
     fn read_class(&mut self, depth: usize, at: usize, class: Class) -> Result<bool, AllocError>
-        ensures { IfOk result (λ b. Brings (MayHave (step_of.One class)) self.old b self.new) }
+        requires { at < length self.old.entries.items }
+        ensures reads { IfOk result (λ b. Brings (MayHave (step_of.One class)) self.old b self.new) }
+        ensures chosen { IfOk result (λ b. AnswersTrees (ClassChosen depth self.old.prefix.now (PartChosen depth self.old.prefix.now) (held at self.old) class) self.old b self.new) }
     {
         match class {
             Class::ActionBody => self.read_body(depth, at),
@@ -459,7 +501,8 @@ impl<'t> Reader<'t> {
     /// Reads the one part of a class, or that which the lines in front begin.
     #[cycle(reading)]
     fn read_member(&mut self, depth: usize, class: Class) -> Result<bool, AllocError>
-        ensures { IfOk result (λ b. Brings (MayHave (step_of.One class)) self.old b self.new) }
+        ensures reads { IfOk result (λ b. Brings (MayHave (step_of.One class)) self.old b self.new) }
+        ensures chosen { IfOk result (λ b. AnswersTrees (MemberChosen depth self.old.prefix.now (PartChosen depth self.old.prefix.now) class) self.old b self.new) }
     {
         match self.choose(depth, class)? {
             Some(part) => self.read_part(depth, part),
@@ -470,8 +513,11 @@ impl<'t> Reader<'t> {
     /// Reads a part of a class, if one is there.
     #[cycle(reading)]
     fn read_optional(&mut self, depth: usize, class: Class) -> Result<bool, AllocError>
-        ensures { IfOk result (λ b. Brings (MayHave (step_of.Optional class)) self.old b self.new) }
+        ensures reads { IfOk result (λ b. Brings (MayHave (step_of.Optional class)) self.old b self.new) }
+        ensures chosen { IfOk result (λ b. AnswersTrees (OptionalChosen depth self.old.prefix.now (PartChosen depth self.old.prefix.now) class) self.old b self.new) }
     {
+        // Its lines are there.
+        let _ahead = self.ahead();
         match self.pick(depth, class)? {
             Some(part) => self.read_part(depth, part),
             None => Ok(true),
@@ -481,23 +527,29 @@ impl<'t> Reader<'t> {
     /// Reads as many parts of a class as there are.
     #[cycle(reading)]
     fn read_many(&mut self, depth: usize, class: Class) -> Result<bool, AllocError>
-        ensures { IfOk result (λ b. Brings (MayHave (step_of.Many class)) self.old b self.new) }
+        ensures reads { IfOk result (λ b. Brings (MayHave (step_of.Many class)) self.old b self.new) }
+        ensures chosen { IfOk result (λ b. AnswersTrees (AnyChosen depth self.old.prefix.now (λ p sofar. PartChosen depth self.old.prefix.now p) class bare) self.old b self.new) }
     {
-        for _i in 0..self.cursor.text().len() {
+        'parts: loop {
+            let ahead = self.ahead().len();
             let Some(part) = self.pick(depth, class)? else {
                 return Ok(true);
             };
             if !self.read_part(depth, part)? {
                 return Ok(false);
             }
+            if self.ahead().len() >= ahead {
+                return Ok(false);
+            }
         }
-        Ok(true)
     }
 
     /// Reads a part of a class, and as many more as there are.
     #[cycle(reading)]
     fn read_some(&mut self, depth: usize, at: usize, class: Class) -> Result<bool, AllocError>
-        ensures { IfOk result (λ b. Brings (MayHave (step_of.Some class)) self.old b self.new) }
+        requires { at < length self.old.entries.items }
+        ensures reads { IfOk result (λ b. Brings (MayHave (step_of.Some class)) self.old b self.new) }
+        ensures chosen { IfOk result (λ b. AnswersTrees (Below depth self.old.prefix.now (step_of.Some class) (held at self.old)) self.old b self.new) }
     {
         if !self.read_class(depth, at, class)? {
             return Ok(false);
@@ -514,17 +566,22 @@ impl<'t> Reader<'t> {
         first: Class,
         second: Class,
     ) -> Result<bool, AllocError>
-        ensures { IfOk result (λ b. Brings (MayHave (step_of.Pairs first second)) self.old b self.new) }
+        requires { at < length self.old.entries.items }
+        ensures reads { IfOk result (λ b. Brings (MayHave (step_of.Pairs first second)) self.old b self.new) }
+        ensures chosen { IfOk result (λ b. AnswersTrees (Below depth self.old.prefix.now (step_of.Pairs first second) (held at self.old)) self.old b self.new) }
     {
-        for _i in 0..self.cursor.text().len() {
+        'pairs: loop {
+            let ahead = self.ahead().len();
             let Some(part) = self.pick(depth, first)? else {
                 return Ok(true);
             };
             if !self.read_pair(depth, at, part, second)? {
                 return Ok(false);
             }
+            if self.ahead().len() >= ahead {
+                return Ok(false);
+            }
         }
-        Ok(true)
     }
 
     /// Reads a part, and one of a class behind it.
@@ -536,7 +593,9 @@ impl<'t> Reader<'t> {
         part: Part,
         second: Class,
     ) -> Result<bool, AllocError>
-        ensures { IfOk result (λ b. Brings (IsPair part second) self.old b self.new) }
+        requires { at < length self.old.entries.items }
+        ensures reads { IfOk result (λ b. Brings (IsPair part second) self.old b self.new) }
+        ensures chosen { IfOk result (λ b. AnswersTrees (PairChosen depth self.old.prefix.now (PartChosen depth self.old.prefix.now) (held at self.old) second part) self.old b self.new) }
     {
         if !self.read_part(depth, part)? {
             return Ok(false);
@@ -548,9 +607,11 @@ impl<'t> Reader<'t> {
     /// are none and the lines are those of inlined actions; else user code.
     #[cycle(reading)]
     fn read_body(&mut self, depth: usize, at: usize) -> Result<bool, AllocError>
-        ensures { IfOk result (λ b. Brings (MayHave (step_of.One class_of.ActionBody)) self.old b self.new) }
+        requires { at < length self.old.entries.items }
+        ensures reads { IfOk result (λ b. Brings (MayHave (step_of.One class_of.ActionBody)) self.old b self.new) }
+        ensures chosen { IfOk result (λ b. AnswersTrees (BodyChosen (PartChosen depth self.old.prefix.now) (parameters_of self.old.prefix.now (last_parameter [] (held at self.old)))) self.old b self.new) }
     {
-        match self.last_parameter(at) {
+        match self.last_parameter(at + 1) {
             Parameters::User => self.read_part(depth, Part::UserBody),
             Parameters::Inlined => self.read_part(depth, Part::InlineBody),
             Parameters::None => self.read_either(depth),
@@ -560,7 +621,8 @@ impl<'t> Reader<'t> {
     /// Reads the lines of inlined actions, or else user code.
     #[cycle(reading)]
     fn read_either(&mut self, depth: usize) -> Result<bool, AllocError>
-        ensures { IfOk result (λ b. Brings (MayHave (step_of.One class_of.ActionBody)) self.old b self.new) }
+        ensures reads { IfOk result (λ b. Brings (MayHave (step_of.One class_of.ActionBody)) self.old b self.new) }
+        ensures chosen { IfOk result (λ b. AnswersTrees (EitherChosen (PartChosen depth self.old.prefix.now)) self.old b self.new) }
     {
         if self.read_inlined(depth)? {
             return Ok(true);
@@ -572,12 +634,12 @@ impl<'t> Reader<'t> {
     /// reader is where it was.
     #[cycle(reading)]
     fn read_inlined(&mut self, depth: usize) -> Result<bool, AllocError>
-        ensures { IfOk result (λ b. Reread (IsPart part_of.InlineBody) self.old b self.new) }
+        ensures reads { IfOk result (λ b. Reread (IsPart part_of.InlineBody) self.old b self.new) }
+        ensures chosen { IfOk result (λ b. AnswersTrees (InlinedChosen (PartChosen depth self.old.prefix.now)) self.old b self.new) }
     {
         let cursor = self.cursor;
         let count = self.entries.len();
-        let all = self.read_part(depth, Part::InlineBody)?;
-        if all && self.cursor.line() == Some("}") {
+        if self.read_closed(depth)? {
             return Ok(true);
         }
         self.cursor = cursor;
@@ -585,14 +647,35 @@ impl<'t> Reader<'t> {
         Ok(false)
     }
 
+    /// Reads the lines of inlined actions up to the `}` behind them.
+    #[cycle(reading)]
+    fn read_closed(&mut self, depth: usize) -> Result<bool, AllocError>
+        ensures reads { IfOk result (λ b. Brings (IsPart part_of.InlineBody) self.old b self.new) }
+        ensures chosen { IfOk result (λ b. AnswersTrees (InlinedChosen (PartChosen depth self.old.prefix.now)) self.old b self.new) }
+    {
+        if !self.read_part(depth, Part::InlineBody)? {
+            return Ok(false);
+        }
+        Ok(self.closes())
+    }
+
+    /// Whether the next line is a `}`.
+    fn closes(&self) -> bool
+        ensures { Decides result (front_line (settled (left self.now.cursor)) ≡ codes "}") }
+    {
+        match self.cursor.line() {
+            Some(line) => line == "}",
+            None => false,
+        }
+    }
+
     /// Whose parameters the header of an action ends with.
-    fn last_parameter(&self, at: usize) -> Parameters {
+    fn last_parameter(&self, at: usize) -> Parameters
+        ensures { result ≡ parameters_of self.now.prefix.now (last_parameter [] (map content (drop at self.now.entries.items))) }
+    {
         let mut last = "";
         for i in at..self.entries.len() {
-            let entry = &self.entries[i];
-            if entry.part == Part::ParameterRow && !entry.holes.is_empty() {
-                last = entry.holes[0].as_str();
-            }
+            last = parameter_after(last, &self.entries[i]);
         }
         if last.starts_with("(_, ") {
             return Parameters::User;
@@ -607,11 +690,31 @@ impl<'t> Reader<'t> {
 
 /// Whose parameters an action has after those of the grammar.
 #[derive(Clone, Copy, PartialEq, Eq)]
-enum Parameters {
+pub enum Parameters {
     /// Patterns of user code.
     User,
     /// Numbered arguments of inlined actions.
     Inlined,
     /// None.
     None,
+}
+
+/// The last parameter after a part, where this was the last before it.
+fn parameter_after<'a>(last: &'a str, entry: &'a Entry<'_>) -> &'a str
+    ensures { result.now ≡ parameter_after last.now (content entry.now) }
+{
+    if entry.part == Part::ParameterRow {
+        return first_or(last, entry);
+    }
+    last
+}
+
+/// The first hole of a part, if it has one; else another text.
+fn first_or<'a>(other: &'a str, entry: &'a Entry<'_>) -> &'a str
+    ensures { result.now ≡ first_or other.now entry.now.holes.items }
+{
+    if entry.holes.is_empty() {
+        return other;
+    }
+    entry.holes[0].as_str()
 }

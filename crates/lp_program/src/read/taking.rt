@@ -1,12 +1,12 @@
 //! Taking uses, user code and tables off a text.
 
-ghost use Rattle.std.specs.Prelude.{◌≡◌, drop, IfSome, IfOk};
-ghost use Rattle.std.specs.Str.{IsCharBoundary};
-ghost use Rattle.lp_tok.specs.Cut.{EndsCut};
+ghost use Rattle.std.specs.Prelude.{◌≡◌, ℕ, List, drop, MatchOption, IfSome, IfOk};
+ghost use Rattle.std.specs.Str.{IsCharBoundary, chars};
+ghost use Rattle.lp_tok.specs.Cut.{EndsCut, StopsAt};
 ghost use Rattle.lp_program.specs.CodeReading as codes_of;
 ghost use Rattle.lp_program.specs.CodeReading.{StartsUse};
 ghost use Rattle.lp_spelling.specs.Cursors.{left, IsTaken};
-ghost use Rattle.lp_program.specs.Taking.{IsTakenTable};
+ghost use Rattle.lp_program.specs.Taking.{IsTakenTable, IsTakenText};
 
 use lp_spelling::cursor::Cursor;
 use lp_spelling::rows::{Table, read_entries};
@@ -31,6 +31,7 @@ fn ends_there(text: &[u8]) -> bool
 fn use_start(cursor: Cursor<'_>) -> Option<usize>
     ensures start { IfSome result (λ from. StartsUse (left cursor.entry) (drop from cursor.entry.text.now)) }
     ensures start_in { IfSome result (λ from. IsCharBoundary cursor.entry.text.now from) }
+    ensures none { MatchOption result ((behind : List ℕ) → StartsUse (left cursor.entry) behind → ⊥) (λ from. Unit {0}) }
 {
     let text = cursor.text();
     let start = cursor.start();
@@ -44,7 +45,7 @@ fn use_start(cursor: Cursor<'_>) -> Option<usize>
 /// Where the cut from a place stops, if it does.
 fn cut_end(text: &str, from: usize) -> Option<usize>
     requires { IsCharBoundary text.now from }
-    ensures { IfSome result (λ end. EndsCut text.now from end) }
+    ensures { MatchOption result ((rest : List ℕ) → StopsAt (chars (drop from text.now)) rest → ⊥) (EndsCut text.now from) }
 {
     match code_end(text, from) {
         Ok(end) => Some(end),
@@ -54,7 +55,8 @@ fn cut_end(text: &str, from: usize) -> Option<usize>
 
 /// Takes the use in the next line, if one is there.
 pub(crate) fn take_use<'t>(cursor: Cursor<'t>) -> Option<Taken<'t>>
-    ensures { IfSome result (λ taken. IsTaken cursor.entry taken.next × codes_of.IsUse (left cursor.entry) taken.text.now (left taken.next)) }
+    ensures takes { IfSome result (λ taken. IsTaken cursor.entry taken.next × codes_of.IsUse (left cursor.entry) taken.text.now (left taken.next)) }
+    ensures exact { IsTakenText (codes_of.IsUse (left cursor.entry)) result }
 {
     let text = cursor.text();
     let Some(from) = use_start(cursor) else {
@@ -94,7 +96,8 @@ fn without_feed(text: &str) -> &str
 
 /// Takes user code: up to the `}` at which its cut stops, without the line feed before it.
 pub(crate) fn take_code<'t>(cursor: Cursor<'t>) -> Option<Taken<'t>>
-    ensures { IfSome result (λ taken. IsTaken cursor.entry taken.next × codes_of.IsCode (left cursor.entry) taken.text.now (left taken.next)) }
+    ensures takes { IfSome result (λ taken. IsTaken cursor.entry taken.next × codes_of.IsCode (left cursor.entry) taken.text.now (left taken.next)) }
+    ensures exact { IsTakenText (codes_of.IsCode (left cursor.entry)) result }
 {
     let text = cursor.text();
     let from = cursor.raw();

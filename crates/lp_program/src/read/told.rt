@@ -1,6 +1,6 @@
 //! Which holes of a part are told.
 
-ghost use Rattle.std.specs.Prelude.{◌≡◌, ◌==◌, ◌≤◌, length, IsTrue};
+ghost use Rattle.std.specs.Prelude.{◌≡◌, ◌==◌, ◌≤◌, ◌&&◌, length};
 ghost use Rattle.lp_form.specs.Templates.{holes_of, steps_of};
 ghost use Rattle.lp_program.specs.Reads.{hole_count, is_text_step, text_steps};
 
@@ -41,7 +41,7 @@ pub(crate) fn is_told(growing: &Growing<'_>) -> bool
 
 /// Whether a part that is being read has no hole that a line tells, and none so far.
 pub(crate) fn is_blank_part(growing: &Growing<'_>) -> bool
-    ensures { IsTrue result → (length (holes_of growing.now.part) ≡ 0) × (length growing.now.holes.items ≡ 0) }
+    ensures { result ≡ ((length (holes_of growing.now.part) == 0) && (length growing.now.holes.items == 0)) }
 {
     holes(growing.part).is_empty() && growing.holes.is_empty()
 }

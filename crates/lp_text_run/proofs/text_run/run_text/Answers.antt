@@ -14,9 +14,9 @@ pub returns-in_err-run_line-clause-fault : goal.returns-in_err-run_line-clause-f
 returns-in_err-run_line-clause-fault c =
     let at = slice_get_read c.args.lines.now (length c.args.lines.now) c.loop-i.i c.index-lines-i.result refl c.loop-i-test.true c.index-lines-i.is in
     let why : IfErr c.from_residual.result (IsLineFault c.in-Ok.program c.args.params.now c.index-lines-i.result (c.loop-i.i + 1)) = search rules in
-    fault_of c.args.text.now c.in-Ok.program c.args.params.now c.args.lines.now c.loop-i.i c.index-lines-i.result (string_bytes c.loop-i.out) c.from_residual.result c.in-Ok.ensures at c.loop-i.invariant why
+    fault_of c.args.text.now c.in-Ok.program c.args.params.now c.args.lines.now c.loop-i.i c.index-lines-i.result (string_bytes c.loop-i.out) c.from_residual.result c.in-Ok.ensures.reads at c.loop-i.invariant why
 
 pub returns-clause-blocks : goal.returns-clause-blocks
 returns-clause-blocks c =
     let all : AreBlocks c.in-Ok.program c.args.params.now c.args.lines.now (length c.args.lines.now) c.into_bytes.result.items = search rules in
-    (c.in-Ok.program, c.in-Ok.ensures, all)
+    (c.in-Ok.program, c.in-Ok.ensures.reads, all)

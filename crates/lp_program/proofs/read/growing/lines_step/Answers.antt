@@ -3,7 +3,9 @@ use Rattle.lp_form.specs.Templates.{piece, holes_of}
 use Rattle.lp_spelling.specs.Lines.{line_of}
 use Rattle.lp_spelling.specs.Cursors.{left}
 use Rattle.lp_program.specs.Reads.{TakesLines}
+use Rattle.lp_program.specs.Telling.{told}
 use Rattle.lp_program.proofs.Growing.{grows_none, grows_then, becomes_before, lines_more}
+use Rattle.lp_program.proofs.Telling.{lines_all, lines_not, lines_on, lines_start}
 use Rattle.lp_program.proofs.read.growing.lines_step.Goals as goal
 
 pub loop-i-init : goal.loop-i-init
@@ -12,6 +14,7 @@ loop-i-init c = record {
   same = refl;
   grows = grows_none c.args.scope.prefix.now c.args.growing.now;
   takes = λ content m. refl;
+  tells = lines_start _ _ _ c.args.count (told c.args.growing.now) (left c.args.cursor);
 }
 
 pub line_step-requires : goal.line_step-requires
@@ -28,11 +31,19 @@ loop-i-preserved c =
       same = step.same ∙ i.same;
       grows = grows_then prefix c.args.growing.now c.loop-i.growing _ i.grows step.grows;
       takes = λ content m. lines_more c.loop-i._i (line_of prefix content.holes pieces) _ _ _ (i.takes content (becomes_before prefix c.loop-i.growing _ content step.grows m)) (step.takes content m);
+      tells = lines_on prefix _ pieces c.args.count c.loop-i._i (told c.args.growing.now) (told c.loop-i.growing) _ (left c.args.cursor) (left c.loop-i.place) _ (omega arith) i.tells step.tells;
     }
 
 -- a line isn't there: only the text stays the same
 pub returns-in_default : goal.returns-in_default
-returns-in_default c = record { same = c.loop-i.invariant.same; grows = tt; takes = tt }
+returns-in_default c =
+    let none = rw c.in_default.is at c.in_ok-next.ensures in
+    record {
+      same = c.loop-i.invariant.same;
+      grows = tt;
+      takes = tt;
+      tells = lines_not _ _ _ c.args.count c.loop-i._i (told c.args.growing.now) (told c.loop-i.growing) (left c.args.cursor) (left c.loop-i.place) (omega arith) c.loop-i.invariant.tells none.tells;
+    }
 
 pub returns : goal.returns
 returns c = record {
@@ -41,4 +52,5 @@ returns c = record {
   takes = λ content m.
       subst (λ n. TakesLines n (line_of c.args.scope.prefix.now content.holes (map piece c.args.pieces.now)) (left c.args.cursor) (left c.loop-i.place)) (omega arith)
       (c.loop-i.invariant.takes content m);
+  tells = lines_all _ _ _ c.args.count c.loop-i._i (told c.args.growing.now) (told c.loop-i.growing) (left c.args.cursor) (left c.loop-i.place) (omega arith) c.loop-i.invariant.tells;
 }

@@ -1,4 +1,4 @@
--- So many lines are taken, whatever the part becomes.
+-- So many lines are taken, whatever the part becomes; the others tell here what all tell.
 use Rattle.std.proofs.Common.{◌≡◌, map}
 use Rattle.lp_form.specs.Templates.{piece, holes_of}
 use Rattle.lp_program.specs.Trees.{Content}
@@ -6,6 +6,8 @@ use Rattle.lp_spelling.specs.Lines.{line_of}
 use Rattle.lp_spelling.specs.Cursors.{left, IsTaken}
 use Rattle.lp_program.specs.Reads.{TakesLines}
 use Rattle.lp_program.specs.Growing.{Grows, MayBecome}
+use Rattle.lp_program.specs.Telling.{told}
+use Rattle.lp_program.proofs.Telling.{LinesLeft}
 use Rattle.lp_program.proofs.read.growing.lines_step.Given as goal
 
 abbrev pub invariant-loop-i : goal.invariant-loop-i
@@ -14,4 +16,5 @@ invariant-loop-i l = record {
   same : IsTaken l.cursor l.place;
   grows : Grows l.scope.prefix.now l.initial.growing l.growing;
   takes : (c : Content) → MayBecome l.growing c → TakesLines l._i (line_of l.scope.prefix.now c.holes (map piece l.pieces)) (left l.cursor) (left l.place);
+  tells : LinesLeft l.scope.prefix.now l.scope.kinds.now (map piece l.pieces) l.fn.count l._i (told l.initial.growing) (told l.growing) (left l.cursor) (left l.place);
 }

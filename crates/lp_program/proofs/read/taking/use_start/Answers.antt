@@ -19,4 +19,5 @@ returns c =
     record {
       start = sym c.start-start.ensures.start ∙ ap (λ t. drop start t) (sym c.text-text.ensures) ∙ sym c.split_at.ensures.back ∙ front ∙ ap (λ x. codes "use " ++ x) (sym there ∙ ap (λ t. drop (length text - length c.in-Some.behind.now) t) c.text-text.ensures);
       start_in = subst (λ t. IsCharBoundary t (length text - length c.in-Some.behind.now)) c.text-text.ensures (IsCharBoundary-from_drop text (length text - length c.in-Some.behind.now) (omega arith) (subst IsUtf8 (sym (there ∙ behind_is)) behind_text));
+      none = tt;
     }

@@ -1,5 +1,8 @@
--- Looking changes nothing but the line that is noted.
-use Rattle.std.proofs.Common.{◌≡◌, ◌+◌, ◌*◌}
+-- Looking changes nothing but the line that is noted, and what is left to be asked is what was asked; none of the parts that were tried begins.
+use Rattle.std.proofs.Common.{◌≡◌, ◌+◌, ◌*◌, false}
+use Rattle.lp_spelling.specs.Cursors.{left}
+use Rattle.lp_program.specs.Looking.{OfLines, NoneBegun}
+use Rattle.lp_program.proofs.Beginning.{Asks}
 use Rattle.lp_program.proofs.read.reader.Reader.+looking.Given as goal
 
 abbrev pub decreases-begins : goal.decreases-begins
@@ -9,7 +12,14 @@ abbrev pub decreases-pick : goal.decreases-pick
 decreases-pick l = 2 * l.depth + 1
 
 abbrev pub invariant-begins-loop-step : goal.invariant-begins-loop-step
-invariant-begins-loop-step l = l.self ≡ record l.initial.self { worst = l.self.worst }
+invariant-begins-loop-step l = record {
+  kept : l.self ≡ record l.initial.self { worst = l.self.worst };
+  front : l.lines ≡ false → left l.cursor ≡ left l.initial.self.cursor;
+  asks : Asks l.depth l.initial.self.prefix.now l.fn.part (left l.initial.self.cursor) l.step-index l.lines l.known.items (left l.cursor);
+}
 
 abbrev pub invariant-pick-loop-part : goal.invariant-pick-loop-part
-invariant-pick-loop-part l = l.self ≡ record l.initial.self { worst = l.self.worst }
+invariant-pick-loop-part l = record {
+  kept : l.self ≡ record l.initial.self { worst = l.self.worst };
+  none : OfLines (left l.initial.self.cursor) (NoneBegun l.depth l.initial.self.prefix.now l.fn.class l.part-index);
+}

@@ -1,178 +1,446 @@
-use Rattle.std.proofs.Common.{arith, refl, sym, ◌∙◌}
+use Rattle.std.proofs.Common.{◌≡◌, length, None, Some, arith, refl, sym, ap, ◌∙◌, subst}
+use Rattle.std.specs.Str.{IsUtf8}
 use Rattle.std.proofs.lemmas.Bool.{OnTrue_at}
+use Rattle.std.proofs.lemmas.List.{drop_all}
 use Rattle.std.proofs.lemmas.Result.{IfOk-weaker}
+use Rattle.lp_form.specs.Templates.{steps_of}
 use Rattle.lp_form.specs.declared.class.Class.TheVariants as class
+use Rattle.lp_form.specs.declared.part.Part.{Part}
 use Rattle.lp_form.specs.declared.part.Part.TheVariants as part
 use Rattle.lp_form.specs.declared.template.Step.TheVariants as step
+use Rattle.lp_spelling.specs.Cursors.{left}
+use Rattle.lp_program.specs.declared.read.reader.Parameters.TheVariants as parameters
 use Rattle.lp_program.specs.Adding.{IsPair, IsPart, MayHave}
-use Rattle.lp_program.proofs.Adding.{brings_as, brings_at, brings_from, brings_none, brings_not, brings_still, brings_then, extends_same, many_more, none_below, one_may, optional_may, pair_may, pairs_more, part_not, part_read, part_start, part_step, reread_no, reread_yes, some_may, step_brings, step_count, step_not, steps_all, steps_not}
+use Rattle.lp_program.specs.Answering.{held}
+use Rattle.lp_program.specs.Choosing.{Reading, InlinedChosen, PartChosen}
+use Rattle.lp_program.specs.Looking.{Picks}
+use Rattle.lp_program.specs.Trees.Forest.{bare}
+use Rattle.lp_program.proofs.Adding.{brings_as, brings_at, brings_from, brings_none, brings_not, brings_still, brings_then, brings_when, extends_same, many_more, none_below, one_may, optional_may, pair_may, pairs_more, part_not, part_read, part_start, part_step, reread_no, reread_yes, some_may, step_brings, step_count, step_not, steps_all, steps_not}
+use Rattle.lp_program.proofs.Answering.{answers_yes, answers_no}
+use Rattle.lp_program.proofs.Beginning.{step_drop}
+use Rattle.lp_program.proofs.Chosen.{part_once}
+use Rattle.lp_program.proofs.Found.{any_begun, below_as, below_none, body_as, either_answers, inlined_added, inlined_answers, inlined_not, member_answers, member_not, optional_answers, optional_none, pair_not, pair_read, seen_lines, some_not, some_read}
 use Rattle.lp_program.proofs.Looking.{inline_body, same_place, user_body}
+use Rattle.lp_program.proofs.Many.{EachPair, EachPart, pairs_ends, pairs_goes, pairs_stays, pairs_stops, parts_ends, parts_goes, parts_stays, parts_stops, seen_from}
+use Rattle.lp_program.proofs.Opened.{part_chosen, part_unread, part_untold}
+use Rattle.lp_program.proofs.Steps.{part_begun, part_done, part_goes, part_stops, step_chosen, step_unread, too_deep}
 use Rattle.lp_program.proofs.read.reader.Reader.+reading.Goals as goal
 
 -- before the first step, behind each, and behind the last
 pub read_steps-loop-step-init : goal.read_steps-loop-step-init
-read_steps-loop-step-init t c = part_start c.args.growing.now.part c.args.growing.now c.args.self.now refl c.requires.none
+read_steps-loop-step-init t c =
+    let part = c.args.growing.now.part in
+    record {
+      reads = part_start part c.args.growing.now c.args.self.now refl (ap (λ o. o.holes) c.requires.none);
+      chosen = (bare, part_begun c.args.depth c.args.self.now.prefix.now part c.args.growing.now c.args.self.now c.requires.none);
+    }
 
 pub read_steps-loop-step-preserved : goal.read_steps-loop-step-preserved
 read_steps-loop-step-preserved t c =
-    part_step c.args.growing.now.part c.steps-step-items.result.now c.loop-step.step-index c.args.at _ c.loop-step.growing _ c.args.self.now c.loop-step.self _ _
-    c.loop-step.invariant c.requires.at c.steps-step-items.ensures c.loop-step-test.true c.if-not-branch.false c.in_ok-read_step.ensures
+    let part = c.args.growing.now.part in
+    let so = c.loop-step.invariant in
+    let next = step_drop c.steps-step-items.result.now (steps_of part) c.loop-step.step-index _ c.steps-step-items.ensures c.loop-step-test.true in
+    record {
+      reads = part_step part c.steps-step-items.result.now c.loop-step.step-index c.args.at _ c.loop-step.growing _ c.args.self.now c.loop-step.self _ _
+          so.reads c.requires.at c.steps-step-items.ensures c.loop-step-test.true c.if-not-branch.false c.in_ok-read_step.ensures.reads;
+      chosen = part_goes c.args.depth c.args.self.now.prefix.now c.loop-step.self.prefix.now part c.loop-step.growing.part c.loop-step.step-index c.args.at _ c.loop-step.growing _ so.chosen.0 c.args.self.now
+          c.loop-step.self _ _ so.chosen.1 so.reads.prefix_is so.reads.so_far.part_is c.requires.at next c.if-not-branch.false c.in_ok-read_step.ensures.chosen;
+    }
 
-pub read_steps-returns : goal.read_steps-returns
-read_steps-returns t c =
+pub read_steps-returns-clause-reads : goal.read_steps-returns-clause-reads
+read_steps-returns-clause-reads t c =
     let count = step_count c.steps-step-items.result.now _ c.steps-step-items.ensures in
-    steps_all c.args.growing.now.part c.loop-step.step-index c.loop-step.growing c.args.self.now c.loop-step.self c.loop-step.invariant (omega (arith, count))
+    steps_all c.args.growing.now.part c.loop-step.step-index c.loop-step.growing c.args.self.now c.loop-step.self c.loop-step.invariant.reads (omega (arith, count))
 
-pub read_steps-returns-then-not-branch : goal.read_steps-returns-then-not-branch
-read_steps-returns-then-not-branch t c =
-    steps_not c.args.growing.now.part c.loop-step.step-index c.args.at _ c.loop-step.growing _ c.args.self.now c.loop-step.self _ _ c.loop-step.invariant c.in_ok-read_step.ensures
+pub read_steps-returns-clause-chosen : goal.read_steps-returns-clause-chosen
+read_steps-returns-clause-chosen t c =
+    let part = c.args.growing.now.part in
+    let so = c.loop-step.invariant.chosen in
+    let count = step_count c.steps-step-items.result.now _ c.steps-step-items.ensures in
+    part_done c.args.depth c.args.self.now.prefix.now part c.loop-step.step-index c.loop-step.growing so.0 c.args.self.now c.loop-step.self so.1
+    (drop_all c.loop-step.step-index (steps_of part) (omega (arith, count)))
+
+pub read_steps-returns-then-not-branch-clause-reads : goal.read_steps-returns-then-not-branch-clause-reads
+read_steps-returns-then-not-branch-clause-reads t c =
+    steps_not c.args.growing.now.part c.loop-step.step-index c.args.at _ c.loop-step.growing _ c.args.self.now c.loop-step.self _ _ c.loop-step.invariant.reads c.in_ok-read_step.ensures.reads
+
+pub read_steps-returns-then-not-branch-clause-chosen : goal.read_steps-returns-then-not-branch-clause-chosen
+read_steps-returns-then-not-branch-clause-chosen t c =
+    let part = c.args.growing.now.part in
+    let so = c.loop-step.invariant in
+    let next = step_drop c.steps-step-items.result.now (steps_of part) c.loop-step.step-index _ c.steps-step-items.ensures c.loop-step-test.true in
+    part_stops c.args.depth c.args.self.now.prefix.now c.loop-step.self.prefix.now part c.loop-step.growing.part c.loop-step.step-index c.args.at _ c.loop-step.growing c.read_step.new.growing so.chosen.0 c.args.self.now
+    c.loop-step.self _ _ so.chosen.1 so.reads.prefix_is so.reads.so_far.part_is c.requires.at next c.if-not-branch.true c.in_ok-read_step.ensures.chosen
 
 -- a step: what it takes itself, and what it has below
-pub read_step-returns-then-not-branch : goal.read_step-returns-then-not-branch
-read_step-returns-then-not-branch t c = step_not c.args.at _ _ _ c.args.self.now _ c.in_ok-read_own.ensures.kept
+pub read_step-returns-then-not-branch-clause-reads : goal.read_step-returns-then-not-branch-clause-reads
+read_step-returns-then-not-branch-clause-reads t c = step_not c.args.at _ _ _ c.args.self.now _ c.in_ok-read_own.ensures.kept
 
-pub read_step-returns : goal.read_step-returns
-read_step-returns t c =
+pub read_step-returns-clause-reads : goal.read_step-returns-clause-reads
+read_step-returns-clause-reads t c =
     let taken = OnTrue_at c.if-not-branch.false c.in_ok-read_own.ensures.takes in
-    IfOk-weaker c.read_below.result _ _ (λ b x. step_brings c.args.at _ _ _ c.args.self.now _ b _ c.in_ok-read_own.ensures.kept taken x) c.read_below.ensures
+    IfOk-weaker c.read_below.result _ _ (λ b x. step_brings c.args.at _ _ _ c.args.self.now _ b _ c.in_ok-read_own.ensures.kept taken x) c.read_below.ensures.reads
 
-pub read_part-returns-then-not-branch : goal.read_part-returns-then-not-branch
-read_part-returns-then-not-branch t c = part_not c.args.part _ _ _ c.args.self.now _ _ _ c.in_ok-growing.ensures c.in_ok-read_steps.ensures
+pub read_step-returns-then-not-branch-clause-chosen : goal.read_step-returns-then-not-branch-clause-chosen
+read_step-returns-then-not-branch-clause-chosen t c =
+    step_unread c.args.depth c.args.at _ c.args.growing.now c.read_own.new.growing c.args.self.now c.read_own.new.self _ c.if-not-branch.true c.in_ok-read_own.ensures.tells
 
-pub read_part-returns-then-not-is_told : goal.read_part-returns-then-not-is_told
-read_part-returns-then-not-is_told t c = part_not c.args.part _ _ _ c.args.self.now _ _ _ c.in_ok-growing.ensures c.in_ok-read_steps.ensures
+pub read_step-returns-clause-chosen : goal.read_step-returns-clause-chosen
+read_step-returns-clause-chosen t c =
+    IfOk-weaker c.read_below.result _ _
+    (λ b x. step_chosen c.args.depth c.args.at _ c.args.growing.now c.read_own.new.growing c.args.self.now c.read_own.new.self _ b _ c.in_ok-read_own.ensures.kept c.if-not-branch.false c.in_ok-read_own.ensures.tells x) c.read_below.ensures.chosen
+
+pub read_part-returns-then-depth-eq0-clause-chosen : goal.read_part-returns-then-depth-eq0-clause-chosen
+read_part-returns-then-depth-eq0-clause-chosen t c = too_deep c.args.depth c.args.self.now.prefix.now c.args.part (left c.args.self.now.cursor) (omega arith)
+
+pub read_part-returns-then-not-branch-clause-reads : goal.read_part-returns-then-not-branch-clause-reads
+read_part-returns-then-not-branch-clause-reads t c = part_not c.args.part _ _ _ c.args.self.now _ _ _ c.in_ok-growing.ensures c.in_ok-read_steps.ensures.reads
+
+pub read_part-returns-then-not-is_told-clause-reads : goal.read_part-returns-then-not-is_told-clause-reads
+read_part-returns-then-not-is_told-clause-reads t c = part_not c.args.part _ _ _ c.args.self.now _ _ _ c.in_ok-growing.ensures c.in_ok-read_steps.ensures.reads
+
+pub read_part-returns-then-not-branch-clause-chosen : goal.read_part-returns-then-not-branch-clause-chosen
+read_part-returns-then-not-branch-clause-chosen t c =
+    part_unread c.args.depth c.args.part _ _ c.args.self.now _ _ _ c.in_ok-growing.ensures (omega arith) c.if-not-branch.true c.in_ok-read_steps.ensures.chosen
+
+pub read_part-returns-then-not-is_told-clause-chosen : goal.read_part-returns-then-not-is_told-clause-chosen
+read_part-returns-then-not-is_told-clause-chosen t c =
+    part_untold c.args.depth c.args.part _ _ c.args.self.now _ _ _ c.in_ok-growing.ensures (omega arith) c.if-not-branch.false c.in_ok-read_steps.ensures.reads c.in_ok-read_steps.ensures.chosen
+    (sym c.is_told.ensures ∙ c.if-not-is_told.true)
 
 -- a part: it was added, its steps were read, and what they told was put in
-pub read_part-returns : goal.read_part-returns
-read_part-returns t c =
-    part_read c.args.part c.len-at.result _ _ c.args.self.now _ _ _ _ c.in_ok-growing.ensures (omega (arith, c.args.self.now.entries.ok.0)) c.in_ok-read_steps.ensures c.if-not-branch.false
+pub read_part-returns-clause-reads : goal.read_part-returns-clause-reads
+read_part-returns-clause-reads t c =
+    part_read c.args.part c.len-at.result _ _ c.args.self.now _ _ _ _ c.in_ok-growing.ensures (omega (arith, c.args.self.now.entries.ok.0)) c.in_ok-read_steps.ensures.reads c.if-not-branch.false
     (sym c.is_told.ensures ∙ c.if-not-is_told.false) c.finish.ensures.kept c.finish.ensures.filled
 
-pub read_below-returns-in-Line : goal.read_below-returns-in-Line
-read_below-returns-in-Line t c = none_below c.args.step _ c.args.self.now c.in-Line.is refl
+pub read_part-returns-clause-chosen : goal.read_part-returns-clause-chosen
+read_part-returns-clause-chosen t c =
+    part_chosen c.args.depth c.args.part c.len-at.result _ _ c.args.self.now _ _ _ _ c.in_ok-growing.ensures (omega (arith, c.args.self.now.entries.ok.0)) (omega arith) c.if-not-branch.false
+    c.in_ok-read_steps.ensures.reads c.in_ok-read_steps.ensures.chosen (sym c.is_told.ensures ∙ c.if-not-is_told.false) c.finish.ensures.kept c.finish.ensures.filled
 
-pub read_below-returns-in-Each : goal.read_below-returns-in-Each
-read_below-returns-in-Each t c = none_below c.args.step _ c.args.self.now c.in-Each.is refl
+pub read_below-returns-in-Line-clause-reads : goal.read_below-returns-in-Line-clause-reads
+read_below-returns-in-Line-clause-reads t c = none_below c.args.step _ c.args.self.now c.in-Line.is refl
 
-pub read_below-returns-in-Empty : goal.read_below-returns-in-Empty
-read_below-returns-in-Empty t c = none_below c.args.step _ c.args.self.now c.in-Empty.is refl
+pub read_below-returns-in-Line-clause-chosen : goal.read_below-returns-in-Line-clause-chosen
+read_below-returns-in-Line-clause-chosen t c = below_none c.args.depth c.args.self.now.prefix.now c.args.step _ (held c.args.at c.args.self.now) c.args.self.now c.in-Line.is (refl, refl)
 
-pub read_below-returns-in-Note : goal.read_below-returns-in-Note
-read_below-returns-in-Note t c = none_below c.args.step _ c.args.self.now c.in-Note.is refl
+pub read_below-returns-in-Each-clause-reads : goal.read_below-returns-in-Each-clause-reads
+read_below-returns-in-Each-clause-reads t c = none_below c.args.step _ c.args.self.now c.in-Each.is refl
 
-pub read_below-returns-in-NoteAlways : goal.read_below-returns-in-NoteAlways
-read_below-returns-in-NoteAlways t c = none_below c.args.step _ c.args.self.now c.in-NoteAlways.is refl
+pub read_below-returns-in-Each-clause-chosen : goal.read_below-returns-in-Each-clause-chosen
+read_below-returns-in-Each-clause-chosen t c = below_none c.args.depth c.args.self.now.prefix.now c.args.step _ (held c.args.at c.args.self.now) c.args.self.now c.in-Each.is (refl, refl)
 
-pub read_below-returns-in-Use : goal.read_below-returns-in-Use
-read_below-returns-in-Use t c = none_below c.args.step _ c.args.self.now c.in-Use.is refl
+pub read_below-returns-in-Empty-clause-reads : goal.read_below-returns-in-Empty-clause-reads
+read_below-returns-in-Empty-clause-reads t c = none_below c.args.step _ c.args.self.now c.in-Empty.is refl
 
-pub read_below-returns-in-Code : goal.read_below-returns-in-Code
-read_below-returns-in-Code t c = none_below c.args.step _ c.args.self.now c.in-Code.is refl
+pub read_below-returns-in-Empty-clause-chosen : goal.read_below-returns-in-Empty-clause-chosen
+read_below-returns-in-Empty-clause-chosen t c = below_none c.args.depth c.args.self.now.prefix.now c.args.step _ (held c.args.at c.args.self.now) c.args.self.now c.in-Empty.is (refl, refl)
 
-pub read_below-returns-in-Entries : goal.read_below-returns-in-Entries
-read_below-returns-in-Entries t c = none_below c.args.step _ c.args.self.now c.in-Entries.is refl
+pub read_below-returns-in-Note-clause-reads : goal.read_below-returns-in-Note-clause-reads
+read_below-returns-in-Note-clause-reads t c = none_below c.args.step _ c.args.self.now c.in-Note.is refl
+
+pub read_below-returns-in-Note-clause-chosen : goal.read_below-returns-in-Note-clause-chosen
+read_below-returns-in-Note-clause-chosen t c = below_none c.args.depth c.args.self.now.prefix.now c.args.step _ (held c.args.at c.args.self.now) c.args.self.now c.in-Note.is (refl, refl)
+
+pub read_below-returns-in-NoteAlways-clause-reads : goal.read_below-returns-in-NoteAlways-clause-reads
+read_below-returns-in-NoteAlways-clause-reads t c = none_below c.args.step _ c.args.self.now c.in-NoteAlways.is refl
+
+pub read_below-returns-in-NoteAlways-clause-chosen : goal.read_below-returns-in-NoteAlways-clause-chosen
+read_below-returns-in-NoteAlways-clause-chosen t c = below_none c.args.depth c.args.self.now.prefix.now c.args.step _ (held c.args.at c.args.self.now) c.args.self.now c.in-NoteAlways.is (refl, refl)
+
+pub read_below-returns-in-Use-clause-reads : goal.read_below-returns-in-Use-clause-reads
+read_below-returns-in-Use-clause-reads t c = none_below c.args.step _ c.args.self.now c.in-Use.is refl
+
+pub read_below-returns-in-Use-clause-chosen : goal.read_below-returns-in-Use-clause-chosen
+read_below-returns-in-Use-clause-chosen t c = below_none c.args.depth c.args.self.now.prefix.now c.args.step _ (held c.args.at c.args.self.now) c.args.self.now c.in-Use.is (refl, refl)
+
+pub read_below-returns-in-Code-clause-reads : goal.read_below-returns-in-Code-clause-reads
+read_below-returns-in-Code-clause-reads t c = none_below c.args.step _ c.args.self.now c.in-Code.is refl
+
+pub read_below-returns-in-Code-clause-chosen : goal.read_below-returns-in-Code-clause-chosen
+read_below-returns-in-Code-clause-chosen t c = below_none c.args.depth c.args.self.now.prefix.now c.args.step _ (held c.args.at c.args.self.now) c.args.self.now c.in-Code.is (refl, refl)
+
+pub read_below-returns-in-Entries-clause-reads : goal.read_below-returns-in-Entries-clause-reads
+read_below-returns-in-Entries-clause-reads t c = none_below c.args.step _ c.args.self.now c.in-Entries.is refl
+
+pub read_below-returns-in-Entries-clause-chosen : goal.read_below-returns-in-Entries-clause-chosen
+read_below-returns-in-Entries-clause-chosen t c = below_none c.args.depth c.args.self.now.prefix.now c.args.step _ (held c.args.at c.args.self.now) c.args.self.now c.in-Entries.is (refl, refl)
+
+pub read_below-returns-in-Many-clause-chosen : goal.read_below-returns-in-Many-clause-chosen
+read_below-returns-in-Many-clause-chosen t c =
+    IfOk-weaker c.read_many.result _ _ (λ b x. below_as c.args.depth c.args.self.now.prefix.now c.args.step _ (held c.args.at c.args.self.now) c.args.self.now b c.read_many.new.self c.in-Many.is x) c.read_many.ensures.chosen
 
 -- the body of an action
-pub read_body-returns-in-User : goal.read_body-returns-in-User
-read_body-returns-in-User t c =
+pub read_body-returns-in-User-clause-reads : goal.read_body-returns-in-User-clause-reads
+read_body-returns-in-User-clause-reads t c =
     IfOk-weaker c.read_part.result _ _
     (λ b x. brings_as (IsPart part.UserBody) (MayHave (step.One class.ActionBody)) c.args.self.now b c.read_part.new.self (one_may class.ActionBody part.UserBody user_body) x)
-    c.read_part.ensures
+    c.read_part.ensures.reads
 
-pub read_body-returns-in-Inlined : goal.read_body-returns-in-Inlined
-read_body-returns-in-Inlined t c =
+pub read_body-returns-in-Inlined-clause-reads : goal.read_body-returns-in-Inlined-clause-reads
+read_body-returns-in-Inlined-clause-reads t c =
     IfOk-weaker c.read_part-in-Inlined.result _ _
     (λ b x. brings_as (IsPart part.InlineBody) (MayHave (step.One class.ActionBody)) c.args.self.now b c.read_part-in-Inlined.new.self (one_may class.ActionBody part.InlineBody inline_body) x)
-    c.read_part-in-Inlined.ensures
+    c.read_part-in-Inlined.ensures.reads
 
-pub read_either-returns-then-branch : goal.read_either-returns-then-branch
-read_either-returns-then-branch t c =
+pub read_body-returns-in-User-clause-chosen : goal.read_body-returns-in-User-clause-chosen
+read_body-returns-in-User-clause-chosen t c =
+    IfOk-weaker c.read_part.result _ _ (λ b x. body_as (PartChosen c.args.depth c.args.self.now.prefix.now) _ parameters.User c.args.self.now b c.read_part.new.self (sym c.in-User.is ∙ c.last_parameter.ensures) x) c.read_part.ensures.chosen
+
+pub read_body-returns-in-Inlined-clause-chosen : goal.read_body-returns-in-Inlined-clause-chosen
+read_body-returns-in-Inlined-clause-chosen t c =
+    IfOk-weaker c.read_part-in-Inlined.result _ _
+    (λ b x. body_as (PartChosen c.args.depth c.args.self.now.prefix.now) _ parameters.Inlined c.args.self.now b c.read_part-in-Inlined.new.self (sym c.in-Inlined.is ∙ c.last_parameter.ensures) x) c.read_part-in-Inlined.ensures.chosen
+
+pub read_body-returns-in-None-clause-chosen : goal.read_body-returns-in-None-clause-chosen
+read_body-returns-in-None-clause-chosen t c =
+    IfOk-weaker c.read_either.result _ _ (λ b x. body_as (PartChosen c.args.depth c.args.self.now.prefix.now) _ parameters.None c.args.self.now b c.read_either.new.self (sym c.in-None.is ∙ c.last_parameter.ensures) x) c.read_either.ensures.chosen
+
+pub read_either-returns-then-branch-clause-chosen : goal.read_either-returns-then-branch-clause-chosen
+read_either-returns-then-branch-clause-chosen t c =
+    let Parts : Part → Reading = PartChosen c.args.depth c.args.self.now.prefix.now in
+    inlined_added Parts c.args.self.now c.read_inlined.new.self (answers_yes (InlinedChosen Parts) c.args.self.now _ c.read_inlined.new.self c.if-branch.true c.in_ok-read_inlined.ensures.chosen)
+
+pub read_either-returns-clause-chosen : goal.read_either-returns-clause-chosen
+read_either-returns-clause-chosen t c =
+    let Parts : Part → Reading = PartChosen c.args.depth c.args.self.now.prefix.now in
+    let same = reread_no (IsPart part.InlineBody) c.args.self.now _ c.read_inlined.new.self c.if-branch.false c.in_ok-read_inlined.ensures.reads in
+    let none = answers_no (InlinedChosen Parts) c.args.self.now _ c.read_inlined.new.self c.if-branch.false c.in_ok-read_inlined.ensures.chosen in
+    IfOk-weaker c.read_part.result _ _ (λ b x. either_answers c.args.depth c.args.self.now c.read_inlined.new.self b c.read_part.new.self same none x) c.read_part.ensures.chosen
+
+pub read_either-returns-then-branch-clause-reads : goal.read_either-returns-then-branch-clause-reads
+read_either-returns-then-branch-clause-reads t c =
     brings_as (IsPart part.InlineBody) (MayHave (step.One class.ActionBody)) c.args.self.now _ c.read_inlined.new.self (one_may class.ActionBody part.InlineBody inline_body)
-    (reread_yes (IsPart part.InlineBody) c.args.self.now _ c.read_inlined.new.self c.if-branch.true c.in_ok-read_inlined.ensures)
+    (reread_yes (IsPart part.InlineBody) c.args.self.now _ c.read_inlined.new.self c.if-branch.true c.in_ok-read_inlined.ensures.reads)
 
-pub read_either-returns : goal.read_either-returns
-read_either-returns t c =
-    let same = reread_no (IsPart part.InlineBody) c.args.self.now _ c.read_inlined.new.self c.if-branch.false c.in_ok-read_inlined.ensures in
+pub read_either-returns-clause-reads : goal.read_either-returns-clause-reads
+read_either-returns-clause-reads t c =
+    let same = reread_no (IsPart part.InlineBody) c.args.self.now _ c.read_inlined.new.self c.if-branch.false c.in_ok-read_inlined.ensures.reads in
     IfOk-weaker c.read_part.result _ _
     (λ b x. brings_as (IsPart part.UserBody) (MayHave (step.One class.ActionBody)) c.args.self.now b c.read_part.new.self (one_may class.ActionBody part.UserBody user_body)
     (brings_from (IsPart part.UserBody) c.args.self.now c.read_inlined.new.self b c.read_part.new.self same x))
-    c.read_part.ensures
+    c.read_part.ensures.reads
+
+-- inlined actions, up to a `}`
+pub read_closed-returns-then-not-branch-clause-reads : goal.read_closed-returns-then-not-branch-clause-reads
+read_closed-returns-then-not-branch-clause-reads t c = brings_at (IsPart part.InlineBody) c.args.self.now _ _ _ c.if-not-branch.true c.in_ok-read_part.ensures.reads
+
+pub read_closed-returns-then-not-branch-clause-chosen : goal.read_closed-returns-then-not-branch-clause-chosen
+read_closed-returns-then-not-branch-clause-chosen t c =
+    inlined_not (PartChosen c.args.depth c.args.self.now.prefix.now) c.args.self.now _ _ c.if-not-branch.true c.in_ok-read_part.ensures.chosen
+
+pub read_closed-returns-clause-reads : goal.read_closed-returns-clause-reads
+read_closed-returns-clause-reads t c =
+    brings_when (IsPart part.InlineBody) c.args.self.now c.closes.result _ (brings_at (IsPart part.InlineBody) c.args.self.now _ _ _ c.if-not-branch.false c.in_ok-read_part.ensures.reads)
+
+pub read_closed-returns-clause-chosen : goal.read_closed-returns-clause-chosen
+read_closed-returns-clause-chosen t c =
+    let prefix = c.args.self.now.prefix.now in
+    inlined_answers (PartChosen c.args.depth prefix) c.args.self.now _ _ c.closes.result (part_once c.args.depth prefix) c.if-not-branch.false c.in_ok-read_part.ensures.chosen c.closes.ensures
 
 -- parts of a class, one after another
-pub read_many-loop-i-init : goal.read_many-loop-i-init
-read_many-loop-i-init t c = none_below (step.Many c.args.class) _ c.args.self.now refl refl
+pub read_many-parts-init : goal.read_many-parts-init
+read_many-parts-init t c = record {
+  reads = none_below (step.Many c.args.class) _ c.args.self.now refl refl;
+  chosen = any_begun c.args.depth c.args.self.now.prefix.now (EachPart c.args.depth c.args.self.now.prefix.now) c.args.class c.args.self.now;
+}
 
-pub read_many-loop-i-preserved : goal.read_many-loop-i-preserved
-read_many-loop-i-preserved t c =
+pub read_many-parts-preserved : goal.read_many-parts-preserved
+read_many-parts-preserved t c =
+    let old = c.args.self.now in
     let member = rw c.in-Some.is at c.in_ok-part.ensures.member in
-    many_more c.args.class c.in-Some.part c.args.self.now c.loop-i.self _ _ _ c.loop-i.invariant (same_place c.loop-i.self _ c.in_ok-part.ensures.kept) member
-    (brings_at (IsPart c.in-Some.part) _ _ _ _ c.if-not-branch.false c.in_ok-read_part.ensures)
+    let same = same_place c.parts.self _ c.in_ok-part.ensures.kept in
+    let e = c.parts.invariant.reads.extends.prefix_is in
+    let seen = seen_from c.args.depth c.args.class (Some c.in-Some.part) old c.parts.self _ e same (subst IsUtf8 c.ahead-ahead.ensures c.ahead-ahead.utf8) (rw c.in-Some.is at c.in_ok-part.ensures.exact) in
+    let was = ap length c.ahead-ahead.ensures in
+    let is = ap length c.ahead.ensures in
+    let at : length (left c.pick.new.self.cursor) ≡ length (left c.parts.self.cursor) = ap (λ k. length (left k)) same.cursor_is in
+    record {
+      reads = many_more c.args.class c.in-Some.part old c.parts.self _ _ _ c.parts.invariant.reads same member (brings_at (IsPart c.in-Some.part) _ _ _ _ c.if-not-branch.false c.in_ok-read_part.ensures.reads);
+      chosen = parts_goes c.args.depth c.args.class c.in-Some.part old c.parts.self _ _ _ e c.parts.invariant.chosen same seen c.if-not-branch.false c.in_ok-read_part.ensures.chosen (omega (arith, was, is, at));
+    }
 
-pub read_many-returns-in_default : goal.read_many-returns-in_default
-read_many-returns-in_default t c =
-    brings_still (MayHave (step.Many c.args.class)) c.args.self.now c.loop-i.self _ c.loop-i.invariant (same_place c.loop-i.self _ c.in_ok-part.ensures.kept)
+pub read_many-returns-in_default-clause-reads : goal.read_many-returns-in_default-clause-reads
+read_many-returns-in_default-clause-reads t c =
+    brings_still (MayHave (step.Many c.args.class)) c.args.self.now c.parts.self _ c.parts.invariant.reads (same_place c.parts.self _ c.in_ok-part.ensures.kept)
 
-pub read_many-returns-then-not-branch : goal.read_many-returns-then-not-branch
-read_many-returns-then-not-branch t c =
+pub read_many-returns-in_default-clause-chosen : goal.read_many-returns-in_default-clause-chosen
+read_many-returns-in_default-clause-chosen t c =
+    let old = c.args.self.now in
+    let same = same_place c.parts.self _ c.in_ok-part.ensures.kept in
+    let e = c.parts.invariant.reads.extends.prefix_is in
+    let seen = seen_from c.args.depth c.args.class None old c.parts.self _ e same (subst IsUtf8 c.ahead-ahead.ensures c.ahead-ahead.utf8) (rw c.in_default.is at c.in_ok-part.ensures.exact) in
+    parts_ends c.args.depth c.args.class old c.parts.self _ c.parts.invariant.chosen same seen
+
+pub read_many-returns-then-ahead-clause-chosen : goal.read_many-returns-then-ahead-clause-chosen
+read_many-returns-then-ahead-clause-chosen t c =
+    let old = c.args.self.now in
+    let same = same_place c.parts.self _ c.in_ok-part.ensures.kept in
+    let e = c.parts.invariant.reads.extends.prefix_is in
+    let seen = seen_from c.args.depth c.args.class (Some c.in-Some.part) old c.parts.self _ e same (subst IsUtf8 c.ahead-ahead.ensures c.ahead-ahead.utf8) (rw c.in-Some.is at c.in_ok-part.ensures.exact) in
+    let was = ap length c.ahead-ahead.ensures in
+    let is = ap length c.ahead.ensures in
+    let at : length (left c.pick.new.self.cursor) ≡ length (left c.parts.self.cursor) = ap (λ k. length (left k)) same.cursor_is in
+    parts_stays c.args.depth c.args.class c.in-Some.part old c.parts.self _ _ _ e c.parts.invariant.chosen same seen c.if-not-branch.false c.in_ok-read_part.ensures.chosen (omega (arith, was, is, at))
+
+pub read_many-returns-then-not-branch-clause-reads : goal.read_many-returns-then-not-branch-clause-reads
+read_many-returns-then-not-branch-clause-reads t c =
     let member = rw c.in-Some.is at c.in_ok-part.ensures.member in
-    many_more c.args.class c.in-Some.part c.args.self.now c.loop-i.self _ _ _ c.loop-i.invariant (same_place c.loop-i.self _ c.in_ok-part.ensures.kept) member
-    (brings_at (IsPart c.in-Some.part) _ _ _ _ c.if-not-branch.true c.in_ok-read_part.ensures)
+    many_more c.args.class c.in-Some.part c.args.self.now c.parts.self _ _ _ c.parts.invariant.reads (same_place c.parts.self _ c.in_ok-part.ensures.kept) member
+    (brings_at (IsPart c.in-Some.part) _ _ _ _ c.if-not-branch.true c.in_ok-read_part.ensures.reads)
+
+pub read_many-returns-then-not-branch-clause-chosen : goal.read_many-returns-then-not-branch-clause-chosen
+read_many-returns-then-not-branch-clause-chosen t c =
+    let old = c.args.self.now in
+    let same = same_place c.parts.self _ c.in_ok-part.ensures.kept in
+    let e = c.parts.invariant.reads.extends.prefix_is in
+    let seen = seen_from c.args.depth c.args.class (Some c.in-Some.part) old c.parts.self _ e same (subst IsUtf8 c.ahead-ahead.ensures c.ahead-ahead.utf8) (rw c.in-Some.is at c.in_ok-part.ensures.exact) in
+    parts_stops c.args.depth c.args.class c.in-Some.part old c.parts.self _ _ _ e c.parts.invariant.chosen same seen c.if-not-branch.true c.in_ok-read_part.ensures.chosen
 
 -- one part of a class, if there is one
-pub read_member-returns-in-Some : goal.read_member-returns-in-Some
-read_member-returns-in-Some t c =
+pub read_member-returns-in-Some-clause-reads : goal.read_member-returns-in-Some-clause-reads
+read_member-returns-in-Some-clause-reads t c =
     let member = rw c.in-Some.is at c.in_ok-part.ensures.member in
     IfOk-weaker c.read_part.result _ _
     (λ b x. brings_as (IsPart c.in-Some.part) (MayHave (step.One c.args.class)) c.args.self.now b c.read_part.new.self (one_may c.args.class c.in-Some.part member)
     (brings_from (IsPart c.in-Some.part) c.args.self.now _ b c.read_part.new.self (same_place c.args.self.now _ c.in_ok-part.ensures.kept) x))
-    c.read_part.ensures
+    c.read_part.ensures.reads
 
-pub read_member-returns-in-None : goal.read_member-returns-in-None
-read_member-returns-in-None t c =
+pub read_member-returns-in-None-clause-reads : goal.read_member-returns-in-None-clause-reads
+read_member-returns-in-None-clause-reads t c =
     brings_not (MayHave (step.One c.args.class)) c.args.self.now _ (extends_same c.args.self.now _ (same_place c.args.self.now _ c.in_ok-part.ensures.kept))
 
-pub read_optional-returns-in-Some : goal.read_optional-returns-in-Some
-read_optional-returns-in-Some t c =
+pub read_member-returns-in-Some-clause-chosen : goal.read_member-returns-in-Some-clause-chosen
+read_member-returns-in-Some-clause-chosen t c =
+    let seen = rw c.in-Some.is at c.in_ok-part.ensures.seen in
+    IfOk-weaker c.read_part.result _ _
+    (λ b x. member_answers c.args.depth c.args.class c.in-Some.part c.args.self.now _ b c.read_part.new.self (same_place c.args.self.now _ c.in_ok-part.ensures.kept) seen x) c.read_part.ensures.chosen
+
+pub read_member-returns-in-None-clause-chosen : goal.read_member-returns-in-None-clause-chosen
+read_member-returns-in-None-clause-chosen t c =
+    let seen = rw c.in-None.is at c.in_ok-part.ensures.seen in
+    let prefix = c.args.self.now.prefix.now in
+    member_not c.args.depth prefix (PartChosen c.args.depth prefix) c.args.class (left c.args.self.now.cursor) seen
+
+pub read_optional-returns-in-Some-clause-chosen : goal.read_optional-returns-in-Some-clause-chosen
+read_optional-returns-in-Some-clause-chosen t c =
+    let old = c.args.self.now in
+    let u = subst IsUtf8 c.ahead-ahead.ensures c.ahead-ahead.utf8 in
+    let seen = seen_lines (Picks c.args.depth old.prefix.now c.args.class (Some c.in-Some.part)) (left old.cursor) u (rw c.in-Some.is at c.in_ok-part.ensures.exact) in
+    IfOk-weaker c.read_part.result _ _
+    (λ b x. optional_answers c.args.depth c.args.class c.in-Some.part old _ b c.read_part.new.self (same_place old _ c.in_ok-part.ensures.kept) seen x) c.read_part.ensures.chosen
+
+pub read_optional-returns-in-None-clause-chosen : goal.read_optional-returns-in-None-clause-chosen
+read_optional-returns-in-None-clause-chosen t c =
+    let old = c.args.self.now in
+    let u = subst IsUtf8 c.ahead-ahead.ensures c.ahead-ahead.utf8 in
+    let seen = seen_lines (Picks c.args.depth old.prefix.now c.args.class None) (left old.cursor) u (rw c.in-None.is at c.in_ok-part.ensures.exact) in
+    optional_none c.args.depth old.prefix.now (PartChosen c.args.depth old.prefix.now) c.args.class old _ (same_place old _ c.in_ok-part.ensures.kept) seen
+
+pub read_optional-returns-in-Some-clause-reads : goal.read_optional-returns-in-Some-clause-reads
+read_optional-returns-in-Some-clause-reads t c =
     let member = rw c.in-Some.is at c.in_ok-part.ensures.member in
     IfOk-weaker c.read_part.result _ _
     (λ b x. brings_as (IsPart c.in-Some.part) (MayHave (step.Optional c.args.class)) c.args.self.now b c.read_part.new.self (optional_may c.args.class c.in-Some.part member)
     (brings_from (IsPart c.in-Some.part) c.args.self.now _ b c.read_part.new.self (same_place c.args.self.now _ c.in_ok-part.ensures.kept) x))
-    c.read_part.ensures
+    c.read_part.ensures.reads
 
-pub read_optional-returns-in-None : goal.read_optional-returns-in-None
-read_optional-returns-in-None t c =
+pub read_optional-returns-in-None-clause-reads : goal.read_optional-returns-in-None-clause-reads
+read_optional-returns-in-None-clause-reads t c =
     brings_none (MayHave (step.Optional c.args.class)) c.args.self.now _ refl (same_place c.args.self.now _ c.in_ok-part.ensures.kept)
 
-pub read_some-returns : goal.read_some-returns
-read_some-returns t c =
-    let first = brings_at (MayHave (step.One c.args.class)) c.args.self.now _ _ c.read_class.new.self c.if-not-branch.false c.in_ok-read_class.ensures in
+pub read_some-returns-clause-reads : goal.read_some-returns-clause-reads
+read_some-returns-clause-reads t c =
+    let first = brings_at (MayHave (step.One c.args.class)) c.args.self.now _ _ c.read_class.new.self c.if-not-branch.false c.in_ok-read_class.ensures.reads in
     IfOk-weaker c.read_many.result _ _
     (λ b x. brings_then (MayHave (step.One c.args.class)) (MayHave (step.Many c.args.class)) (MayHave (step.Some c.args.class)) c.args.self.now c.read_class.new.self b c.read_many.new.self (some_may c.args.class) first x)
-    c.read_many.ensures
+    c.read_many.ensures.reads
+
+pub read_some-returns-then-not-branch-clause-chosen : goal.read_some-returns-then-not-branch-clause-chosen
+read_some-returns-then-not-branch-clause-chosen t c = some_not c.args.depth c.args.class c.args.at c.args.self.now _ _ c.if-not-branch.true c.in_ok-read_class.ensures.chosen
+
+pub read_some-returns-clause-chosen : goal.read_some-returns-clause-chosen
+read_some-returns-clause-chosen t c =
+    IfOk-weaker c.read_many.result _ _
+    (λ b x. some_read c.args.depth c.args.class c.args.at c.args.self.now c.read_class.new.self _ b c.read_many.new.self c.in_ok-read_class.ensures.reads.extends.prefix_is c.if-not-branch.false c.in_ok-read_class.ensures.chosen x)
+    c.read_many.ensures.chosen
 
 -- pairs, one after another
-pub read_pair-returns : goal.read_pair-returns
-read_pair-returns t c =
-    let first = brings_at (IsPart c.args.part) c.args.self.now _ _ c.read_part.new.self c.if-not-branch.false c.in_ok-read_part.ensures in
+pub read_pair-returns-clause-reads : goal.read_pair-returns-clause-reads
+read_pair-returns-clause-reads t c =
+    let first = brings_at (IsPart c.args.part) c.args.self.now _ _ c.read_part.new.self c.if-not-branch.false c.in_ok-read_part.ensures.reads in
     IfOk-weaker c.read_class.result _ _
     (λ b x. brings_then (IsPart c.args.part) (MayHave (step.One c.args.second)) (IsPair c.args.part c.args.second) c.args.self.now c.read_part.new.self b c.read_class.new.self (pair_may c.args.part c.args.second) first x)
-    c.read_class.ensures
+    c.read_class.ensures.reads
 
-pub read_pairs-loop-i-init : goal.read_pairs-loop-i-init
-read_pairs-loop-i-init t c = none_below (step.Pairs c.args.first c.args.second) _ c.args.self.now refl refl
+pub read_pair-returns-then-not-branch-clause-chosen : goal.read_pair-returns-then-not-branch-clause-chosen
+read_pair-returns-then-not-branch-clause-chosen t c =
+    pair_not c.args.depth c.args.self.now.prefix.now c.args.second c.args.part c.args.at c.args.self.now _ _ c.if-not-branch.true c.in_ok-read_part.ensures.chosen
 
-pub read_pairs-loop-i-preserved : goal.read_pairs-loop-i-preserved
-read_pairs-loop-i-preserved t c =
+pub read_pair-returns-clause-chosen : goal.read_pair-returns-clause-chosen
+read_pair-returns-clause-chosen t c =
+    IfOk-weaker c.read_class.result _ _
+    (λ b x. pair_read c.args.depth c.args.second c.args.part c.args.at c.args.self.now c.read_part.new.self _ b c.read_class.new.self c.requires c.in_ok-read_part.ensures.reads.extends.prefix_is c.if-not-branch.false
+    c.in_ok-read_part.ensures.chosen x)
+    c.read_class.ensures.chosen
+
+pub read_pairs-pairs-init : goal.read_pairs-pairs-init
+read_pairs-pairs-init t c =
+    let old = c.args.self.now in
+    record {
+      reads = none_below (step.Pairs c.args.first c.args.second) _ old refl refl;
+      chosen = any_begun c.args.depth old.prefix.now (EachPair c.args.depth old.prefix.now (held c.args.at old) c.args.second) c.args.first old;
+    }
+
+pub read_pairs-pairs-preserved : goal.read_pairs-pairs-preserved
+read_pairs-pairs-preserved t c =
+    let old = c.args.self.now in
     let member = rw c.in-Some.is at c.in_ok-part.ensures.member in
-    pairs_more c.args.first c.args.second c.in-Some.part c.args.self.now c.loop-i.self _ _ _ c.loop-i.invariant (same_place c.loop-i.self _ c.in_ok-part.ensures.kept) member
-    (brings_at (IsPair c.in-Some.part c.args.second) _ _ _ _ c.if-not-branch.false c.in_ok-read_pair.ensures)
+    let same = same_place c.pairs.self _ c.in_ok-part.ensures.kept in
+    let e = c.pairs.invariant.reads.extends.prefix_is in
+    let seen = seen_from c.args.depth c.args.first (Some c.in-Some.part) old c.pairs.self _ e same (subst IsUtf8 c.ahead-ahead.ensures c.ahead-ahead.utf8) (rw c.in-Some.is at c.in_ok-part.ensures.exact) in
+    let was = ap length c.ahead-ahead.ensures in
+    let is = ap length c.ahead.ensures in
+    let at : length (left c.pick.new.self.cursor) ≡ length (left c.pairs.self.cursor) = ap (λ k. length (left k)) same.cursor_is in
+    record {
+      reads = pairs_more c.args.first c.args.second c.in-Some.part old c.pairs.self _ _ _ c.pairs.invariant.reads same member (brings_at (IsPair c.in-Some.part c.args.second) _ _ _ _ c.if-not-branch.false c.in_ok-read_pair.ensures.reads);
+      chosen = pairs_goes c.args.depth c.args.at c.args.first c.args.second c.in-Some.part old c.pairs.self _ _ _ c.requires e c.pairs.invariant.chosen same seen c.if-not-branch.false c.in_ok-read_pair.ensures.chosen (omega (arith, was, is, at));
+    }
 
-pub read_pairs-returns-in_default : goal.read_pairs-returns-in_default
-read_pairs-returns-in_default t c =
-    brings_still (MayHave (step.Pairs c.args.first c.args.second)) c.args.self.now c.loop-i.self _ c.loop-i.invariant (same_place c.loop-i.self _ c.in_ok-part.ensures.kept)
+pub read_pairs-returns-in_default-clause-reads : goal.read_pairs-returns-in_default-clause-reads
+read_pairs-returns-in_default-clause-reads t c =
+    brings_still (MayHave (step.Pairs c.args.first c.args.second)) c.args.self.now c.pairs.self _ c.pairs.invariant.reads (same_place c.pairs.self _ c.in_ok-part.ensures.kept)
 
-pub read_pairs-returns-then-not-branch : goal.read_pairs-returns-then-not-branch
-read_pairs-returns-then-not-branch t c =
+pub read_pairs-returns-in_default-clause-chosen : goal.read_pairs-returns-in_default-clause-chosen
+read_pairs-returns-in_default-clause-chosen t c =
+    let old = c.args.self.now in
+    let same = same_place c.pairs.self _ c.in_ok-part.ensures.kept in
+    let e = c.pairs.invariant.reads.extends.prefix_is in
+    let seen = seen_from c.args.depth c.args.first None old c.pairs.self _ e same (subst IsUtf8 c.ahead-ahead.ensures c.ahead-ahead.utf8) (rw c.in_default.is at c.in_ok-part.ensures.exact) in
+    pairs_ends c.args.depth c.args.at c.args.first c.args.second old c.pairs.self _ c.pairs.invariant.chosen same seen
+
+pub read_pairs-returns-then-ahead-clause-chosen : goal.read_pairs-returns-then-ahead-clause-chosen
+read_pairs-returns-then-ahead-clause-chosen t c =
+    let old = c.args.self.now in
+    let same = same_place c.pairs.self _ c.in_ok-part.ensures.kept in
+    let e = c.pairs.invariant.reads.extends.prefix_is in
+    let seen = seen_from c.args.depth c.args.first (Some c.in-Some.part) old c.pairs.self _ e same (subst IsUtf8 c.ahead-ahead.ensures c.ahead-ahead.utf8) (rw c.in-Some.is at c.in_ok-part.ensures.exact) in
+    let was = ap length c.ahead-ahead.ensures in
+    let is = ap length c.ahead.ensures in
+    let at : length (left c.pick.new.self.cursor) ≡ length (left c.pairs.self.cursor) = ap (λ k. length (left k)) same.cursor_is in
+    pairs_stays c.args.depth c.args.at c.args.first c.args.second c.in-Some.part old c.pairs.self _ _ _ c.requires e c.pairs.invariant.chosen same seen c.if-not-branch.false c.in_ok-read_pair.ensures.chosen (omega (arith, was, is, at))
+
+pub read_pairs-returns-then-not-branch-clause-reads : goal.read_pairs-returns-then-not-branch-clause-reads
+read_pairs-returns-then-not-branch-clause-reads t c =
     let member = rw c.in-Some.is at c.in_ok-part.ensures.member in
-    pairs_more c.args.first c.args.second c.in-Some.part c.args.self.now c.loop-i.self _ _ _ c.loop-i.invariant (same_place c.loop-i.self _ c.in_ok-part.ensures.kept) member
-    (brings_at (IsPair c.in-Some.part c.args.second) _ _ _ _ c.if-not-branch.true c.in_ok-read_pair.ensures)
+    pairs_more c.args.first c.args.second c.in-Some.part c.args.self.now c.pairs.self _ _ _ c.pairs.invariant.reads (same_place c.pairs.self _ c.in_ok-part.ensures.kept) member
+    (brings_at (IsPair c.in-Some.part c.args.second) _ _ _ _ c.if-not-branch.true c.in_ok-read_pair.ensures.reads)
+
+pub read_pairs-returns-then-not-branch-clause-chosen : goal.read_pairs-returns-then-not-branch-clause-chosen
+read_pairs-returns-then-not-branch-clause-chosen t c =
+    let old = c.args.self.now in
+    let same = same_place c.pairs.self _ c.in_ok-part.ensures.kept in
+    let e = c.pairs.invariant.reads.extends.prefix_is in
+    let seen = seen_from c.args.depth c.args.first (Some c.in-Some.part) old c.pairs.self _ e same (subst IsUtf8 c.ahead-ahead.ensures c.ahead-ahead.utf8) (rw c.in-Some.is at c.in_ok-part.ensures.exact) in
+    pairs_stops c.args.depth c.args.at c.args.first c.args.second c.in-Some.part old c.pairs.self _ _ _ c.requires e c.pairs.invariant.chosen same seen c.if-not-branch.true c.in_ok-read_pair.ensures.chosen

@@ -1,12 +1,19 @@
 use Rattle.std.proofs.Common.{Some, refl, ap, sym, ◌∙◌, rules}
+use Rattle.std.proofs.lemmas.Bool.{false≢true}
 use Rattle.lp_spelling.specs.Cursors.{left}
 use Rattle.lp_program.proofs.Growing.{grows_table}
 use Rattle.lp_program.proofs.read.reader.Reader.entries_taken.Goals as goal
 
 pub returns-in-Whole : goal.returns-in-Whole
-returns-in-Whole c = λ count pieces.
+returns-in-Whole c =
     let taken = rw c.in-Whole.is at c.in_ok-taken.ensures in
     record {
-      grows = grows_table c.args.self.now.prefix.now c.args.growing.now _ refl refl refl (search rules);
-      takes = λ content m. taken.1 ∙ ap (λ n. Some (n, left c.in-Whole.place)) (sym (m.numbers refl));
+      takes = λ count pieces. record {
+        grows = grows_table c.args.self.now.prefix.now c.args.growing.now _ refl refl refl (search rules);
+        takes = λ content m. taken.1 ∙ ap (λ n. Some (n, left c.in-Whole.place)) (sym (m.numbers refl));
+      };
+      tells = record { first = search rules; reads = taken.1; new_is = refl };
     }
+
+pub returns-in-Broken-clause-tells : goal.returns-in-Broken-clause-tells
+returns-in-Broken-clause-tells c = λ new rest t. let taken = rw c.in-Broken.is at c.in_ok-taken.ensures in let read = t.reads in cc

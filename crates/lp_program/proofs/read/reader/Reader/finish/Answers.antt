@@ -16,6 +16,7 @@ returns-clause-filled c =
         part_is = ap (λ x. x.part) (c.index_mut-entry.ensures.value ∙ get_or_default old c.args.at there entry c.requires);
         holes_are = refl;
         numbers_are = refl;
+        notes_are = ap (λ x. x.notes) (c.index_mut-entry.ensures.value ∙ get_or_default old c.args.at there entry c.requires);
         below_is = omega (arith, c.args.self.now.entries.ok.0);
       };
     }

@@ -2,9 +2,17 @@ use Rattle.std.proofs.lemmas.Bool.{OnTrue_from}
 use Rattle.lp_form.specs.declared.part.Part.TheVariants as part
 use Rattle.lp_program.specs.Adding.{IsPart}
 use Rattle.lp_program.proofs.Adding.{brings_at, whole_read}
+use Rattle.lp_program.proofs.Whole.{whole_answers, whole_not}
 use Rattle.lp_program.proofs.read.reader.Reader.read_whole.Goals as goal
 
-pub returns : goal.returns
-returns c =
+pub returns-clause-reads : goal.returns-clause-reads
+returns-clause-reads c =
     OnTrue_from c.at_end.result _
-    (λ e. whole_read c.args.self.now _ _ (brings_at (IsPart part.Program) _ _ _ _ c.if-not-branch.false c.in_ok-read_part.ensures) c.at_end.ensures.kept (c.at_end.ensures.none e))
+    (λ e. whole_read c.args.self.now _ _ (brings_at (IsPart part.Program) _ _ _ _ c.if-not-branch.false c.in_ok-read_part.ensures.reads) c.at_end.ensures.kept (c.at_end.ensures.none e))
+
+pub returns-clause-chosen : goal.returns-clause-chosen
+returns-clause-chosen c =
+    whole_answers c.args.self.now _ _ c.at_end.result _ c.if-not-branch.false c.in_ok-read_part.ensures.chosen c.at_end.ensures.kept c.at_end.ensures.none c.at_end.ensures.exact
+
+pub returns-then-not-branch-clause-chosen : goal.returns-then-not-branch-clause-chosen
+returns-then-not-branch-clause-chosen c = whole_not c.args.self.now _ _ c.if-not-branch.true c.in_ok-read_part.ensures.chosen

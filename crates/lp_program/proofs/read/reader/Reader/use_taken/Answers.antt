@@ -1,7 +1,21 @@
+use Rattle.std.proofs.Common.{length}
+use Rattle.lp_form.specs.Templates.{holes_of}
+use Rattle.lp_program.proofs.Telling.{blank_not, blank_part}
 use Rattle.lp_program.proofs.read.reader.Reader.use_taken.Goals as goal
 
+pub use_step-requires : goal.use_step-requires
+use_step-requires c =
+    let blank = blank_part (length (holes_of c.args.growing.now.part)) (length c.args.growing.now.holes.items) _ c.is_blank_part.ensures c.if-not-is_blank_part.false in
+    record { kinds = blank.0; first = blank.1 }
+
+pub returns-then-not-is_blank_part-clause-tells : goal.returns-then-not-is_blank_part-clause-tells
+returns-then-not-is_blank_part-clause-tells c =
+    λ new rest t. blank_not (length (holes_of c.args.growing.now.part)) (length c.args.growing.now.holes.items) _ c.is_blank_part.ensures c.if-not-is_blank_part.true t.bare t.first
+
 pub returns-in-Some : goal.returns-in-Some
-returns-in-Some c = λ count pieces.
-    let grows = rw c.in-Some.is at c.in_ok-place.ensures.grows in
-    let takes = rw c.in-Some.is at c.in_ok-place.ensures.takes in
-    record { grows = grows c.args.self.now.prefix.now; takes = takes }
+returns-in-Some c =
+    let step = rw c.in-Some.is at c.in_ok-place.ensures in
+    record { takes = λ count pieces. record { grows = step.grows c.args.self.now.prefix.now; takes = step.takes }; tells = step.tells }
+
+pub returns-in-None-clause-tells : goal.returns-in-None-clause-tells
+returns-in-None-clause-tells c = let step = rw c.in-None.is at c.in_ok-place.ensures in step.tells

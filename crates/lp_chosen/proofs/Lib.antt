@@ -1,0 +1,17 @@
+pub mod Lists
+pub mod Templates
+pub mod Entries
+pub mod Following
+pub mod Taking
+pub mod Made
+pub mod Owning
+pub mod Picking
+pub mod Ending
+pub mod Each
+pub mod Bodies
+pub mod Below
+pub mod Chosen
+pub mod Inlined
+pub mod Showing
+pub mod Law
+pub mod Existing

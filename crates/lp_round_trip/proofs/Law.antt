@@ -1,0 +1,78 @@
+-- The laws of what is emitted.
+use Rattle.std.proofs.Common.{◌≡◌, ℕ, zero, suc, true, List, [], ◌∷◌, ◌++◌, length, take, drop, codes, ltb, All, sym, ◌∙◌, ap}
+use Rattle.std.proofs.lemmas.List.Elements.{All-drop, All-head, All-tail, All-take}
+use Rattle.std.proofs.lemmas.Bool.{and_parts}
+use Rattle.lp_texts.specs.Identifiers.{is_identifier}
+use Rattle.lp_repr.specs.declared.lr1.StartStates.{StartStates}
+use Rattle.lp_repr.specs.declared.repr.Grammar.{Grammar}
+use Rattle.lp_tree.specs.declared.tree.Entry.{Entry}
+use Rattle.lp_tree.specs.declared.tree.Program.{Program}
+use Rattle.lp_write.specs.declared.rust.Options.{Options}
+use Rattle.lp_program.specs.Reads.{is_prefix}
+use Rattle.lp_program.specs.Trees.{forest, forest_within, whole}
+use Rattle.lp_found.specs.Found.{are_words}
+use Rattle.lp_found.proofs.Words.{prefix_words}
+use Rattle.lp_fitting.specs.Fitting.{HolesFit}
+use Rattle.lp_laws.specs.AsRead.{IsRead}
+use Rattle.lp_laws.proofs.Existing.{each_is_read}
+use Rattle.lp_shown.specs.Laws.{AreParted}
+use Rattle.lp_chosen.specs.Laws.{told_trees, ReadsTold}
+use Rattle.lp_chosen.proofs.Existing.{never_refused}
+use Rattle.lp_chosen.proofs.Law.{chosen_is_it, programs_are_chosen}
+use Rattle.lp_printed.proofs.Law.{reads_told}
+use Rattle.lp_emit.specs.Texts.{IsEmission}
+use Rattle.lp_round_trip.proofs.Codes.{bodies_suit_told}
+use Rattle.lp_round_trip.specs.Laws.{AreBodiesTold, SuitingIsTold, FittingIsParted, EmissionIsChosen, EmissionIsRead, EmissionIsNotRefused}
+
+parted_within : (prefix : List ℕ) (n : ℕ) (es : List Entry) → All (HolesFit prefix) es → AreParted prefix (forest_within n es)
+unfolding forest_within
+parted_within prefix zero es h = tt
+parted_within prefix (suc n) [] h = tt
+parted_within prefix (suc n) (e ∷ es) h =
+    let first = All-head (HolesFit prefix) e es h in
+    let others = All-tail (HolesFit prefix) e es h in
+    (first.parted, parted_within prefix n (take e.below es) (All-take (HolesFit prefix) e.below es others), parted_within prefix n (drop e.below es) (All-drop (HolesFit prefix) e.below es others))
+
+parted_whole : (prefix : List ℕ) (es : List Entry) → All (HolesFit prefix) es → AreParted prefix (whole es)
+unfolding forest
+parted_whole prefix [] h = tt
+parted_whole prefix (e ∷ es) h =
+    let first = All-head (HolesFit prefix) e es h in
+    (first.parted, parted_within prefix (length es) es (All-tail (HolesFit prefix) e es h), tt)
+
+pub fitting_is_parted : FittingIsParted
+fitting_is_parted program h = parted_whole program.prefix program.entries.items h.parts
+
+-- what is emitted reads as a program that is told
+emission_told : (g : Grammar) (states : List StartStates) (options : Options) (text : List ℕ) (e : IsEmission g states options text) (read : Program) → AreBodiesTold options e.program text → IsRead options.whitespace e.program read → ReadsTold text read
+emission_told g states options text e read bodies is = reads_told options.whitespace e.program read text (e.reads read is) (fitting_is_parted e.program e.fitting) bodies is
+
+pub emission_is_chosen : EmissionIsChosen
+emission_is_chosen g states options text e told u bodies same =
+    let r = each_is_read options.whitespace e.program in
+    let is = r.1 in
+    programs_are_chosen text r.0 told u (emission_told g states options text e r.0 bodies is) (same.0 ∙ sym is.prefix) (same.1 ∙ ap told_trees (sym is.trees))
+
+pub emission_is_read : EmissionIsRead
+emission_is_read g states options text e chosen u bodies c =
+    let r = each_is_read options.whitespace e.program in
+    let is = r.1 in
+    let same = chosen_is_it text r.0 chosen u (emission_told g states options text e r.0 bodies is) c in
+    (same.0 ∙ is.prefix, same.1 ∙ ap told_trees is.trees)
+
+pub emission_is_not_refused : EmissionIsNotRefused
+emission_is_not_refused g states options text e line u bodies refused =
+    let r = each_is_read options.whitespace e.program in
+    never_refused text r.0 line u (emission_told g states options text e r.0 bodies r.1) refused
+
+-- its prefix has bytes of words alone
+emission_words : (g : Grammar) (states : List StartStates) (options : Options) (text : List ℕ) (e : IsEmission g states options text) → are_words e.program.prefix ≡ true
+emission_words g states options text e =
+    let prefix = e.program.prefix in
+    let r = each_is_read options.whitespace e.program in
+    let is = r.1 in
+    let fits : is_prefix prefix ≡ true = sym (ap is_prefix is.prefix) ∙ (e.reads r.0 is).prefix_fits in
+    prefix_words prefix e.fitting.prefix_utf8 (and_parts (ltb 0 (length prefix)) (is_identifier (prefix ++ codes "lalrpop_util")) fits).1
+
+pub suiting_is_told : SuitingIsTold
+suiting_is_told g states options text e s = bodies_suit_told e.program.prefix text [] _ (emission_words g states options text e) s
