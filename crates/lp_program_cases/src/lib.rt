@@ -7,3 +7,5 @@ mod ascent;
 mod readings;
 #[cfg(test)]
 mod row_one;
+#[cfg(test)]
+mod views;

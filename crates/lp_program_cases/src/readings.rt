@@ -2,6 +2,7 @@
 
 use crate::ascent::ASCENT;
 use crate::row_one::ROW_ONE;
+use lp_form_view::{ActionView, FormView, view};
 use lp_program::build::{
     ActionBody, FunctionName, Triples, action_fn, header, program, standard_uses, to_triple,
 };
@@ -10,7 +11,7 @@ use lp_program::piece::Piece;
 use lp_program::print::print_program;
 use lp_program::read::{ReadFault, read_program};
 use lp_program::tree::{Node, Program};
-use lp_program::view::{ActionView, FormView, root};
+use lp_program::view::root;
 use lp_write::{MemorySink, Options, RustWrite};
 use std::alloc::Global;
 use std::borrow::CowStr;
@@ -186,7 +187,7 @@ fn codes(alloc: Global, program: &Program<'_>) -> Result<String, Fail> {
         if let FormView::ActionFn {
             body: ActionView::User { code },
             ..
-        } = form.view()
+        } = view(form)
         {
             all.push_str(code.trim_start())?;
             all.push_str(";")?;
