@@ -22,7 +22,8 @@ use Rattle.lp_program.specs.Trees.{Forest}
 use Rattle.lp_program.specs.Trees.Forest.{bare}
 use Rattle.lp_apart.proofs.Spelled.{line_spelled}
 use Rattle.lp_program.specs.Choosing.{Reading, SeenLines, AnyChosen, ManyChosen, BelowChosen, StepsChosen, PartChosen}
-use Rattle.lp_chosen.specs.Laws.{begins_inlined, OthersAreNoInlined}
+use Rattle.lp_found.specs.Inlined.{begins_inlined}
+use Rattle.lp_chosen.specs.Laws.{OthersAreNoInlined}
 use Rattle.lp_program.specs.Telling.{untold}
 
 -- the line in front is spelled by the first line of a part

@@ -1,6 +1,6 @@
 -- What the laws say: a reader that looks ahead reads what a text reads as, where holes are parted and the bodies of actions are told.
-use Rattle.std.specs.Prelude.{◌≡◌, ℕ, Bool, true, false, ◌||◌, if◌then◌else◌, nat_eq, List, [], ◌∷◌, ◌++◌, get_or, codes}
-use Rattle.std.specs.List.{list_any, starts_with}
+use Rattle.std.specs.Prelude.{◌≡◌, ℕ, Bool, true, false, if◌then◌else◌, List, [], ◌∷◌, ◌++◌, get_or}
+use Rattle.std.specs.List.{list_any}
 use Rattle.std.specs.Str.{IsUtf8}
 use Rattle.lp_form.specs.Templates.{steps_of}
 use Rattle.lp_form.specs.Templates as template
@@ -11,6 +11,7 @@ use Rattle.lp_form.specs.declared.template.Step.TheVariants as step
 use Rattle.lp_spelling.specs.Counting.{settled, front_line}
 use Rattle.lp_tree.specs.declared.tree.Program.{Program}
 use Rattle.lp_found.specs.Found.{are_words}
+use Rattle.lp_found.specs.Inlined.{begins_inlined}
 use Rattle.lp_shown.specs.Laws.{AreParted}
 use Rattle.lp_program.specs.CodeReading.{IsCode}
 use Rattle.lp_program.specs.declared.read.reader.Parameters.{Parameters}
@@ -68,12 +69,6 @@ BodiesTold prefix text before (tree c below after) =
     IsBodyTold prefix text (parameters_of prefix (last_parameter [] before)) c.part c.holes
     × BodiesTold prefix text [] below
     × BodiesTold prefix text (before ++ (c ∷ contents below)) after
-
--- a line begins as the first of a span, of a call or of the outer call among inlined actions
-abbrev pub begins_inlined : List ℕ → List ℕ → Bool
-begins_inlined prefix line =
-    starts_with nat_eq line (codes "let " ++ prefix)
-    || (starts_with nat_eq line (prefix ++ codes "action") || starts_with nat_eq line (codes "Ok(" ++ (prefix ++ codes "action")))
 
 -- where the next line begins as none of these, no inlined actions are read
 abbrev pub OthersAreNoInlined : Type 0

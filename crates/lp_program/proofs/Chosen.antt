@@ -1,7 +1,7 @@
 -- What a reader reads that looks ahead is one thing.
-use Rattle.std.proofs.Common.{◌≡◌, ℕ, zero, suc, ◌<◌, ◌==◌, Bool, true, false, inl, inr, ◌⊎◌, List, [], ◌∷◌, ◌++◌, length, Option, Some, None, refl, sym, ap, ◌∙◌, arith, subst}
+use Rattle.std.proofs.Common.{◌≡◌, ℕ, zero, suc, ◌<◌, ◌==◌, Bool, true, false, inl, inr, List, [], ◌∷◌, ◌++◌, length, Option, Some, None, refl, sym, ap, ◌∙◌, arith, subst}
 use Rattle.std.specs.Bool.{MatchBool}
-use Rattle.std.proofs.lemmas.Bool.{cases_lt, cases_Bool}
+use Rattle.std.proofs.lemmas.Bool.{cases_lt}
 use Rattle.lp_form.specs.Classes.{members_of}
 use Rattle.lp_form.specs.Templates.{steps_of}
 use Rattle.lp_form.specs.Templates as template
@@ -11,13 +11,12 @@ use Rattle.lp_form.specs.declared.part.Part.{Part}
 use Rattle.lp_form.specs.declared.part.Part.TheVariants as part
 use Rattle.lp_form.specs.declared.template.Step.{Step}
 use Rattle.lp_form.specs.declared.template.Step.TheVariants as step
-use Rattle.lp_spelling.specs.Counting.{settled, front_line}
 use Rattle.lp_program.specs.declared.read.reader.Parameters.{Parameters}
 use Rattle.lp_program.specs.declared.read.reader.Parameters.TheVariants as parameters
 use Rattle.lp_program.specs.Begins.{Lines, member, Begins}
 use Rattle.lp_program.specs.Looking.{AreCounted, NoneBegun, Picks, Chooses}
 use Rattle.lp_program.specs.Reads.{graft}
-use Rattle.lp_program.specs.Choosing.{Reading, Nothing, Followed, Shorter, IsUnread, contents, SeenLines, MemberChosen, OptionalChosen, ManyChosen, AnyChosen, InlinedChosen, EitherChosen, BodyChosen, ClassChosen, PairChosen, BelowChosen, StepChosen, StepsChosen, grown, PartSteps, PartChosen, WholeChosen}
+use Rattle.lp_program.specs.Choosing.{Reading, Nothing, Followed, Shorter, contents, SeenLines, MemberChosen, OptionalChosen, ManyChosen, AnyChosen, InlinedChosen, EitherChosen, BodyChosen, ClassChosen, PairChosen, BelowChosen, StepChosen, StepsChosen, grown, PartSteps, PartChosen, WholeChosen}
 use Rattle.lp_program.specs.Parameters.{last_parameter, parameters_of}
 use Rattle.lp_program.specs.Telling.{Told, untold}
 use Rattle.lp_program.specs.Trees.{Content, Forest, tree_count}

@@ -1,14 +1,13 @@
 -- Uses and user code: each has one end, and is one text.
-use Rattle.std.proofs.Common.{◌≡◌, ℕ, ◌+◌, ◌-◌, ◌<◌, ◌≤◌, true, List, [], ◌∷◌, ◌++◌, length, codes, drop, refl, sym, ap, ◌∙◌, arith, eqb, length-append, length-drop, subst}
-use Rattle.std.specs.List.{starts_with}
+use Rattle.std.proofs.Common.{◌≡◌, ℕ, ◌+◌, ◌-◌, ◌≤◌, List, [], ◌∷◌, ◌++◌, length, codes, drop, refl, sym, ap, ◌∙◌, arith, length-append, length-drop, subst}
 use Rattle.std.specs.Str.{IsUtf8, IsCharBoundary, chars, encode_utf8_all}
-use Rattle.std.proofs.lemmas.List.{append_cancel_left, append_cancel_right, drop-drop, drop_at}
+use Rattle.std.proofs.lemmas.List.{append_cancel_left, append_cancel_right}
 use Rattle.std.proofs.lemmas.Str.{encode_ascii, encodes-chars, IsUtf8-append, IsUtf8-drop}
 use Rattle.lp_tok.specs.declared.tok.Error.{Error}
 use Rattle.lp_tok.specs.Cut.{StopsAt, EndsCut, FailsCut}
 use Rattle.lp_tok.specs.Cut.FailsCut.{breaks, unclosed}
 use Rattle.lp_tok.proofs.CutSteps.{stops_same, stops_breaks, stops_unclosed}
-use Rattle.lp_program.specs.CodeReading.{StartsUse, IsUse, IsCode, ends_there, without_feed}
+use Rattle.lp_program.specs.CodeReading.{StartsUse, IsUse, IsCode, without_feed}
 
 -- texts of the same characters
 pub same_text : (a b : List ℕ) → IsUtf8 a → IsUtf8 b → chars a ≡ chars b → a ≡ b

@@ -1,5 +1,5 @@
 -- What a reader finds: one part of a class, some of them, and the body of an action.
-use Rattle.std.proofs.Common.{◌≡◌, ℕ, zero, suc, ◌+◌, ◌<◌, ◌≤◌, Bool, true, false, inl, inr, List, [], ◌∷◌, ◌++◌, length, Option, Some, None, codes, refl, sym, ap, ◌∙◌, arith, subst}
+use Rattle.std.proofs.Common.{◌≡◌, ℕ, zero, suc, ◌+◌, ◌<◌, ◌≤◌, Bool, true, false, inl, inr, List, [], ◌++◌, length, Some, None, codes, refl, sym, ap, arith, subst}
 use Rattle.std.specs.Bool.{Decides}
 use Rattle.std.specs.Str.{IsUtf8}
 use Rattle.std.proofs.lemmas.Bool.{false≢true}
@@ -16,14 +16,14 @@ use Rattle.lp_program.specs.declared.read.reader.Reader.{Reader}
 use Rattle.lp_program.specs.Adding.{SamePlace}
 use Rattle.lp_program.specs.Answering.{AddsRead, AnswersTrees, held}
 use Rattle.lp_program.specs.Begins.{Lines}
-use Rattle.lp_program.specs.Choosing.{Reading, Nothing, Followed, Shorter, IsUnread, contents, SeenLines, MemberChosen, OptionalChosen, ManyChosen, AnyChosen, InlinedChosen, EitherChosen, BodyChosen, ClassChosen, PairChosen, BelowChosen, Below, PartChosen, WholeChosen}
+use Rattle.lp_program.specs.Choosing.{Reading, Followed, Shorter, IsUnread, contents, SeenLines, MemberChosen, OptionalChosen, ManyChosen, AnyChosen, InlinedChosen, EitherChosen, BodyChosen, ClassChosen, PairChosen, Below, PartChosen}
 use Rattle.lp_program.specs.Looking.{OfLines, Picks, Chooses}
 use Rattle.lp_program.specs.Parameters.{last_parameter, parameters_of}
 use Rattle.lp_program.specs.Reads.{graft}
 use Rattle.lp_program.specs.Trees.{Content, Forest}
 use Rattle.lp_program.specs.Trees.Forest.{bare}
 use Rattle.lp_program.proofs.Answering.{IsRead, answers_as, answers_from, answers_then, answers_yes, answers_no, first_not, nothing_added, Reached, reached_none, reached_same, reached_as, reached_then, reached_not, reached_yes}
-use Rattle.lp_program.proofs.Chosen.{IsOnce, AreOnce, seen_picks, seen_chooses, shorter_once, inlined_once, part_once, pair_once, class_once}
+use Rattle.lp_program.proofs.Chosen.{IsOnce, AreOnce, seen_picks, seen_chooses, shorter_once, part_once, class_once}
 use Rattle.lp_program.proofs.Existing.{lines_exist}
 use Rattle.lp_program.proofs.Held.{held_more}
 

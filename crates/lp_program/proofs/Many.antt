@@ -1,5 +1,5 @@
 -- A reader that reads as many parts, or pairs, as the lines in front begin.
-use Rattle.std.proofs.Common.{◌≡◌, ℕ, ◌<◌, ◌≤◌, Bool, true, false, List, ◌++◌, length, Option, Some, None, sym, ap, ◌∙◌, subst}
+use Rattle.std.proofs.Common.{◌≡◌, ℕ, ◌<◌, ◌≤◌, Bool, true, false, List, ◌++◌, length, Option, Some, None, sym, ◌∙◌, subst}
 use Rattle.std.specs.Str.{IsUtf8}
 use Rattle.lp_form.specs.declared.class.Class.{Class}
 use Rattle.lp_form.specs.declared.part.Part.{Part}

@@ -9,7 +9,6 @@ use Rattle.lp_spelling.proofs.Reading.{starts_again, starts_ok}
 use Rattle.lp_tree.specs.declared.tree.Entry.{Entry}
 use Rattle.lp_program.specs.Parameters.{first_or, parameter_after, last_parameter, is_argument, parameters_of}
 use Rattle.lp_program.specs.Trees.{Content, content}
-use Rattle.lp_program.specs.declared.read.reader.Parameters.{Parameters}
 use Rattle.lp_program.specs.declared.read.reader.Parameters.TheVariants as whose
 
 -- one part more, and all of them

@@ -9,7 +9,7 @@ use Rattle.lp_spelling.specs.Cursors.{left}
 use Rattle.lp_tree.specs.declared.tree.Entry.{Entry}
 use Rattle.lp_program.specs.declared.read.growing.Growing.{Growing}
 use Rattle.lp_program.specs.declared.read.reader.Reader.{Reader}
-use Rattle.lp_program.specs.Adding.{Holds, kids, Opened}
+use Rattle.lp_program.specs.Adding.{Holds, kids}
 use Rattle.lp_program.specs.Answering.{AddsRead, AnswersTrees, AnswersSteps, held}
 use Rattle.lp_program.specs.Choosing.{Reading, IsUnread, contents, Below, StepChosen, StepsChosen, PartSteps, PartChosen, grown}
 use Rattle.lp_program.specs.Growing.{IsFilled}

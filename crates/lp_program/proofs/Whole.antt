@@ -8,7 +8,7 @@ use Rattle.lp_spelling.specs.Counting.{settled}
 use Rattle.lp_spelling.specs.Cursors.{left}
 use Rattle.lp_tree.specs.declared.tree.Program.{Program}
 use Rattle.lp_program.specs.declared.read.reader.Reader.{Reader}
-use Rattle.lp_program.specs.Answering.{AddsRead, AnswersTrees}
+use Rattle.lp_program.specs.Answering.{AnswersTrees}
 use Rattle.lp_program.specs.Choosing.{IsUnread, IsChosen, PartChosen, WholeChosen, grown}
 use Rattle.lp_program.specs.Prefixes.{ShowsPrefix}
 use Rattle.lp_program.specs.Trees.{Content, Forest, whole}

@@ -1,4 +1,4 @@
-use Rattle.std.proofs.Common.{◌≡◌, Bor, List, ℕ, true, refl, ap, sym, ◌∙◌, rules, subst}
+use Rattle.std.proofs.Common.{◌≡◌, List, ℕ, true, refl, ap, sym, ◌∙◌, rules, subst}
 use Rattle.std.proofs.lemmas.Bool.{OnTrue_at}
 use Rattle.lp_program.specs.Prefixes.{ShowsPrefix}
 use Rattle.lp_program.specs.Reads.{is_prefix}

@@ -1,5 +1,4 @@
 use Rattle.std.proofs.Common.{Some, refl, ap, sym, ◌∙◌, rules}
-use Rattle.std.proofs.lemmas.Bool.{false≢true}
 use Rattle.lp_spelling.specs.Cursors.{left}
 use Rattle.lp_program.proofs.Growing.{grows_table}
 use Rattle.lp_program.proofs.read.reader.Reader.entries_taken.Goals as goal
