@@ -190,9 +190,11 @@ fn start_value<'p>(maker: &Maker<'p>, variant: Tag, made: usize) -> Result<Expr,
 /// What all lines of a state function share.
 #[derive(Clone, Copy)]
 pub struct Lines {
+    /// The slot of the lookahead; `usize::MAX` where no name stands for it.
     pub lookahead: usize,
     /// The slot of what is returned.
     pub made: usize,
+    /// The state type of the list of states; none where the header has no list of a state type.
     pub kind: Option<StateType>,
 }
 

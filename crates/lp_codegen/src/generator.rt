@@ -31,17 +31,20 @@ pub struct CodeGenerator<'codegen, 'grammar, W, C> {
     pub user_start_symbol: &'grammar NonterminalString,
     /// The nonterminal of the start.
     pub start_symbol: &'grammar NonterminalString,
+    /// The states of the start, by number.
     pub states: &'codegen [Lr1State],
     /// Where the lines go.
     pub out: &'codegen mut RustWrite<W>,
     /// The path of the module that has the actions, as `super`.
     pub action_module: &'codegen str,
+    /// What the kind of code adds.
     pub custom: C,
     /// The tokens can be gone through again.
     pub repeatable: bool,
 }
 
 impl<'codegen, 'grammar, W: Sink, C> CodeGenerator<'codegen, 'grammar, W, C> {
+    /// What prints to `out`, which it leaves as it is; the prefix and the types are the grammar's.
     pub fn new(
         alloc: Global,
         grammar: &'grammar Grammar,

@@ -92,6 +92,7 @@ fn copied_recovery(alloc: Global, recovery: &Recovery) -> Result<Recovery, Alloc
     })
 }
 
+/// A copy of a token without a span: of its form and its payloads. Fails where memory runs out.
 pub fn copied_value(alloc: Global, token: &TokenValue) -> Result<TokenValue, AllocError>
     ensures { IfOk result (λ copy. copy ≡ token.now) }
 {

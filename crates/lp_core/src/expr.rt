@@ -15,10 +15,12 @@ pub enum Leaf {
     Empty(Tag),
     Bool(bool),
     Index(usize),
+    /// A number of a state type.
     State(StateType, i32),
     /// A text of the program, by its number.
     Text(usize),
     DefaultLocation,
+    /// Reads a slot, by its number from 0, which keeps its value.
     Read(usize),
     /// Reads a slot for the last time.
     Take(usize),
@@ -33,6 +35,7 @@ pub enum Leaf {
 /// What is done with one value.
 #[derive(Clone, Copy)]
 pub enum Op {
+    /// Writes the value to a slot, by its number from 0.
     Write(usize),
     /// A part of a value.
     Part(usize),
@@ -67,6 +70,7 @@ pub enum Op {
     TakeOut,
     ReadIn,
     IsEmpty,
+    /// Ends the call with the value.
     Return,
     /// `ParseError::User` and `ParseError::ExtraToken`.
     UserError,
@@ -82,6 +86,7 @@ pub enum Op {
 pub enum Join {
     /// A value with these parts.
     Make(Tag),
+    /// Of two `usize`.
     Add,
     Multiply,
     Subtract,
@@ -89,6 +94,7 @@ pub enum Join {
     AtLeast,
     /// A state of a list, by its index.
     StateAt(StateType),
+    /// `push` of a list in a cell, and `truncate` of a list of states.
     Push,
     Truncate,
     /// `extend` of a list by an option.
@@ -113,12 +119,14 @@ pub enum Join {
 pub enum Target {
     /// A function, by its number.
     Function(usize),
+    /// What is done with the values of the arguments.
     Join(Join),
 }
 
 /// Which part of a value is tested.
 #[derive(Clone, Copy)]
 pub enum Place {
+    /// The value itself.
     Here,
     /// The first part.
     Inside,
@@ -131,6 +139,7 @@ pub enum Place {
 pub enum Test {
     /// That a number is between these, both included.
     Between(i64, i64),
+    /// That a value has this tag.
     Is(Tag),
     /// That a token has the form that this text of the program is.
     Form(usize),
@@ -141,6 +150,7 @@ pub enum Test {
 pub struct Case {
     pub place: Place,
     pub test: Test,
+    /// The number of the body, counted from 0.
     pub body: usize,
 }
 
@@ -149,13 +159,18 @@ pub struct Case {
 #[cycle(ast)]
 pub enum Node {
     Plain(Leaf),
+    /// What is done with the value of an expression.
     Apply(Op, Box<Expr>),
+    /// The test, then what is done where it holds and where it doesn't.
     If(Box<Expr>, Box<Expr>, Box<Expr>),
     /// Writes the value to a slot, and goes on with the body of the first case that fits, else with
     /// the last body.
     Match(Box<Expr>, usize, Vec<Case>, Vec<Expr>),
+    /// Goes on turn by turn, until a return.
     Loop(Box<Expr>),
+    /// The arguments are evaluated in order.
     Call(Target, Vec<Expr>),
+    /// One after another; the value is that of the last.
     Block(Vec<Expr>),
 }
 
@@ -194,6 +209,7 @@ impl Model for Expr {
 }
 
 impl Expr {
+    /// What needs no value first.
     pub fn plain(leaf: Leaf) -> Expr
         ensures { result ≡ Plain leaf }
     {
@@ -202,18 +218,21 @@ impl Expr {
         }
     }
 
+    /// Reads a slot, by its number from 0, which keeps its value.
     pub fn read(slot: usize) -> Expr
         ensures { result ≡ Plain (Leaf.Read slot) }
     {
         Expr::plain(Leaf::Read(slot))
     }
 
+    /// Reads a slot for the last time: it has no value afterwards.
     pub fn take(slot: usize) -> Expr
         ensures { result ≡ Plain (Leaf.Take slot) }
     {
         Expr::plain(Leaf::Take(slot))
     }
 
+    /// A number of type `usize`.
     pub fn index(n: usize) -> Expr
         ensures { result ≡ Plain (Leaf.Index n) }
     {
@@ -227,6 +246,7 @@ impl Expr {
         Expr::plain(Leaf::Stuck)
     }
 
+    /// What is done with the value of `e`. Fails where memory runs out.
     pub fn apply(alloc: Global, op: Op, e: Expr) -> Result<Expr, AllocError>
         ensures { IfOk result (λ r. r ≡ Apply op e) }
     {
@@ -242,6 +262,7 @@ impl Expr {
         Expr::apply(alloc, Op::Write(slot), e)
     }
 
+    /// `if`: `yes` where the test is true, `no` where it is false. Fails where memory runs out.
     pub fn choose(alloc: Global, test: Expr, yes: Expr, no: Expr) -> Result<Expr, AllocError>
         ensures { IfOk result (λ r. r ≡ If test yes no) }
     {
@@ -269,6 +290,7 @@ impl Expr {
         })
     }
 
+    /// `loop`: goes on turn by turn, until a return. Fails where memory runs out.
     pub fn repeat(alloc: Global, turn: Expr) -> Result<Expr, AllocError>
         ensures { IfOk result (λ r. r ≡ Loop turn) }
     {
@@ -277,6 +299,7 @@ impl Expr {
         })
     }
 
+    /// A call of a function, by its number from 0; the arguments are evaluated in order.
     pub fn call(function: usize, args: Vec<Expr>) -> Expr
         ensures { result ≡ Call (Target.Function function) (trees_of args.items) }
     {
@@ -285,6 +308,7 @@ impl Expr {
         }
     }
 
+    /// What is done with the values of the arguments, which are evaluated in order.
     pub fn join(join: Join, args: Vec<Expr>) -> Expr
         ensures { result ≡ Call (Target.Join join) (trees_of args.items) }
     {
@@ -293,6 +317,7 @@ impl Expr {
         }
     }
 
+    /// One expression after another. The value is that of the last; an empty block has none.
     pub fn block(parts: Vec<Expr>) -> Expr
         ensures { result ≡ Block (trees_of parts.items) }
     {
@@ -305,6 +330,7 @@ impl Expr {
 /// A printed function: its parameters stand in its first slots.
 #[derive(Drop)]
 pub struct Function {
+    /// How many parameters it has.
     pub params: usize,
     /// How many slots it has besides.
     pub slots: usize,

@@ -25,11 +25,17 @@ use std::mem;
 /// What is to be done with a value, once there is one.
 #[derive(Drop)]
 pub enum Frame<'a> {
+    /// What is done with the value.
     Apply(&'a Op),
+    /// The other expressions of a block.
     Sequence(&'a [Expr]),
+    /// What is done where the value is true, and where it is false.
     Choose(&'a Expr, &'a Expr),
+    /// A match: the slot for the value, the cases and the bodies.
     Select(usize, &'a [Case], &'a [Expr]),
+    /// A call: what is called, the arguments before this one, and the expressions after it.
     Argument(&'a Target, Vec<Value>, &'a [Expr]),
+    /// The body of a loop, for another turn.
     Turn(&'a Expr),
     /// Back in the caller: its slots, and how many cells there were.
     Leave(Vec<Value>, usize),
@@ -38,17 +44,24 @@ pub enum Frame<'a> {
 /// What makes a step.
 #[derive(Drop)]
 pub enum Step<'a> {
+    /// Enters the function of this number, counted from 0, with these arguments.
     Enter(usize, Vec<Value>),
+    /// Begins a turn of a loop with this body.
     Again(&'a Expr),
 }
 
 /// Where the run is.
 #[derive(Drop)]
 pub enum Now<'a> {
+    /// This expression is to begin.
     Eval(&'a Expr),
+    /// A call: what is called, the arguments so far, and the expressions of the others.
     Arguments(&'a Target, Vec<Value>, &'a [Expr]),
+    /// A block: its expressions that are left, and the value of the last one before.
     Sequence(&'a [Expr], Value),
+    /// An expression has ended; the last frame goes on.
     Ended(Done),
+    /// A step is to be made.
     Make(Step<'a>),
 }
 

@@ -78,7 +78,9 @@ pub enum Atom {
     State(StateType, i32),
     /// The value of a symbol, or a location.
     Term(Term),
+    /// A parse error.
     Error(Box<RunParseError>),
+    /// The error that a `ParseError::User` holds.
     User(UserError),
     /// A text of the program, by its number.
     Text(usize),
@@ -209,24 +211,28 @@ impl Value {
         Value::plain(Atom::Unset)
     }
 
+    /// A `usize` as a value.
     pub fn index(n: usize) -> Value
         ensures { result ≡ index n }
     {
         Value::plain(Atom::Index(n))
     }
 
+    /// A `bool` as a value.
     pub fn bool(b: bool) -> Value
         ensures { result ≡ truth b }
     {
         Value::plain(Atom::Bool(b))
     }
 
+    /// A term as a value: that of a symbol, or a location.
     pub fn term(t: Term) -> Value
         ensures { result ≡ val.Plain (atom.Parsed (value_of t)) }
     {
         Value::plain(Atom::Term(t))
     }
 
+    /// A location as a value.
     pub fn location(l: Loc) -> Value
         ensures { result ≡ location l }
     {
@@ -298,6 +304,7 @@ impl Value {
         }
     }
 
+    /// The atom itself, if the value is one.
     pub fn into_atom(self) -> Option<Atom>
         ensures { option_map datum_of result ≡ datum self }
     {
@@ -361,6 +368,7 @@ impl Value {
         }
     }
 
+    /// The `usize`, if the value is one.
     pub fn as_index(&self) -> Option<usize>
         ensures { result ≡ index_of self.now }
     {
@@ -380,6 +388,7 @@ impl Value {
         }
     }
 
+    /// The `bool`, if the value is one.
     pub fn as_bool(&self) -> Option<bool>
         ensures { result ≡ truth_of self.now }
     {
@@ -389,6 +398,7 @@ impl Value {
         }
     }
 
+    /// The number of the cell, counted from 0, if the value is a reference to one.
     pub fn as_cell(&self) -> Option<usize>
         ensures { result ≡ cell_of self.now }
     {
@@ -398,6 +408,7 @@ impl Value {
         }
     }
 
+    /// The location, if the value is one.
     pub fn as_location(&self) -> Option<Loc>
         ensures { result ≡ location_of self.now }
     {
@@ -407,6 +418,7 @@ impl Value {
         }
     }
 
+    /// The term, if the value is one; a location is one too.
     pub fn into_term(self) -> Option<Term>
         ensures { option_map value_of result ≡ term_of self }
     {

@@ -39,6 +39,7 @@ pub fn copied_token(alloc: Global, token: &SpannedToken) -> Result<SpannedToken,
     Ok((token.0, value, token.2))
 }
 
+/// Copies of tokens with their spans, in order. Fails where memory runs out.
 pub fn copied_tokens(
     alloc: Global,
     tokens: &[SpannedToken],
@@ -95,6 +96,7 @@ fn copied_recovery(alloc: Global, recovery: &Recovery) -> Result<Recovery, Alloc
     })
 }
 
+/// A copy of a token without a span: of its form and its payloads. Fails where memory runs out.
 pub fn copied_value(alloc: Global, token: &TokenValue) -> Result<TokenValue, AllocError>
     ensures { IfOk result (λ copy. copy ≡ token.now) }
 {
@@ -136,12 +138,14 @@ impl Model for Symbol {
 }
 
 impl Symbol {
+    /// The symbol whose value is that of the term.
     pub fn new(term: Term) -> Symbol
         ensures { result ≡ value_of term }
     {
         Symbol { term }
     }
 
+    /// The term that it holds.
     pub fn into_term(self) -> Term
         ensures { value_of result ≡ self }
     {
@@ -149,6 +153,7 @@ impl Symbol {
         term
     }
 
+    /// Another symbol with the same value. Fails where memory runs out.
     pub fn copied(&self, alloc: Global) -> Result<Symbol, AllocError>
         ensures { IfOk result (λ copy. copy ≡ self.now) }
     {

@@ -21,6 +21,7 @@ use std::collections::BTreeMap;
 #[derive(Drop)]
 pub struct Maker<'p> {
     pub alloc: Global,
+    /// In front of each name that the printed text makes itself.
     pub prefix: &'p str,
     /// Functions by name, without the prefix.
     names: BTreeMap<Text, usize>,
@@ -30,13 +31,16 @@ pub struct Maker<'p> {
     texts: Vec<Text>,
     /// The names of the terminals, as texts.
     pub terminals: Vec<usize>,
+    /// The number of the action table among the tables; `usize::MAX` until it is known.
     pub action_table: usize,
+    /// That of the table of actions at the end of input, likewise.
     pub eof_table: usize,
     /// The closure of the token source, if it has one.
     pub item_closure: Option<usize>,
 }
 
 impl<'p> Maker<'p> {
+    /// Nothing is made yet. `prefix` is in front of each name that the printed text makes itself.
     pub fn new(alloc: Global, prefix: &'p str) -> Maker<'p>
         ensures { making result ≡ unmade prefix.now }
     {
@@ -108,6 +112,7 @@ impl<'p> Maker<'p> {
         Ok(number)
     }
 
+    /// Adds a text; answers its number, counted from 0. Fails where memory runs out.
     pub fn text(&mut self, text: Text) -> Result<usize, AllocError>
         ensures number { IfOk result (λ n. n ≡ length (making self.old).texts) }
         ensures made { OnOk result (making self.new ≡ with_text text (making self.old)) }
@@ -117,6 +122,7 @@ impl<'p> Maker<'p> {
         Ok(number)
     }
 
+    /// Adds a table; answers its number, counted from 0. Fails where memory runs out.
     pub fn table(&mut self, table: Table) -> Result<usize, AllocError>
         ensures number { IfOk result (λ n. n ≡ length (making self.old).tables) }
         ensures made { OnOk result (making self.new ≡ with_table (entries_of table) (making self.old)) }
@@ -280,24 +286,29 @@ impl<'p> Maker<'p> {
         })
     }
 
+    /// `let` and assignment: writes the value to a slot. Fails where memory runs out.
     pub fn write(&self, slot: usize, e: Expr) -> Result<Expr, AllocError>
         ensures { IfOk result (λ r. r ≡ write slot e) }
     {
         Expr::write(self.alloc, slot, e)
     }
 
+    /// What is done with the value of `e`. Fails where memory runs out.
     pub fn apply(&self, op: Op, e: Expr) -> Result<Expr, AllocError>
         ensures { IfOk result (λ r. r ≡ Apply op e) }
     {
         Expr::apply(self.alloc, op, e)
     }
 
+    /// `return`: ends the call with the value. Fails where memory runs out.
     pub fn give_back(&self, e: Expr) -> Result<Expr, AllocError>
         ensures { IfOk result (λ r. r ≡ give_back e) }
     {
         self.apply(Op::Return, e)
     }
 
+    /// What is done with the values of two expressions, of which `a` comes first. Fails where
+    /// memory runs out.
     pub fn pair(&self, join: Join, a: Expr, b: Expr) -> Result<Expr, AllocError>
         ensures { IfOk result (λ r. r ≡ joined join (a ∷ b ∷ [])) }
     {
@@ -388,6 +399,7 @@ impl<'p> Maker<'p> {
         self.on_result(value, slot, Expr::take(slot), back)
     }
 
+    /// `None`.
     pub fn absent(&self) -> Expr
         ensures { result ≡ absent }
     {

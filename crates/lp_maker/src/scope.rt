@@ -24,6 +24,7 @@ impl Model for Scope {
 }
 
 impl Scope {
+    /// No names; the first slot that is given out has number 0.
     pub fn new(alloc: Global) -> Scope
         ensures { result ≡ no_names }
     {

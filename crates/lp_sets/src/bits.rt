@@ -38,6 +38,7 @@ impl Bits {
         }
     }
 
+    /// Whether a number is in the set.
     pub fn contains(&self, number: usize) -> bool
         ensures stands { IsTrue result ↔ Has self.now number }
         ensures test { result ≡ has self.now number }

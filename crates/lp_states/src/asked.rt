@@ -13,12 +13,14 @@ use std::collections::BTreeMap;
 /// these, which are the same for all productions of one nonterminal.
 #[derive(Drop)]
 pub struct Asked {
+    /// The lookaheads so far, by nonterminal.
     pub sets: BTreeMap<usize, TokenSet>,
     /// The nonterminals whose productions may ask for more.
     pub work: Vec<usize>,
 }
 
 impl Asked {
+    /// Nothing is asked for yet.
     pub fn new(alloc: Global) -> Asked
         ensures sets { (n : ℕ) → get nat_cmp result.sets n ≡ None }
         ensures work { result.work.items ≡ [] }

@@ -28,10 +28,13 @@ pub type ItemSet = BTreeMap<(usize, usize), TokenSet>;
 #[derive(Drop)]
 pub struct Closing {
     pub rules: Rules,
+    /// What the words of these productions begin with.
     pub firsts: Firsts,
 }
 
 impl Closing {
+    /// The productions of a grammar, and what their words begin with. Fails where memory runs out,
+    /// or where 2^64 - 1 rounds over the productions aren't enough.
     pub fn new(alloc: Global, grammar: &Grammar) -> Result<Closing, AllocError>
         ensures rules { IfOk result (λ c. c.rules.all.items ≡ rules_of grammar.now) }
         ensures firsts { IfOk result (λ c. AreFirsts c.rules.all.items c.firsts.empty c.firsts.sets.items) }

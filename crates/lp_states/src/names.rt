@@ -17,6 +17,7 @@ pub struct Names<'g> {
 }
 
 impl<'g> Names<'g> {
+    /// The names of all symbols in the grammar's productions. Fails where memory runs out.
     pub fn new(alloc: Global, grammar: &'g Grammar) -> Result<Names<'g>, AllocError>
         ensures rightly { IfOk result (NamesRightly grammar.entry.now) }
         ensures all { IfOk result (NamesAll (rules_of grammar.entry.now)) }

@@ -14,12 +14,14 @@ use std::alloc::{AllocError, Global};
 #[derive(Clone, Copy, Debug)]
 pub struct Range {
     pub from: usize,
+    /// The number after the last one.
     pub to: usize,
 }
 
 /// The productions in the order of their nonterminals' keys.
 #[derive(Debug, Drop)]
 pub struct Rules {
+    /// By number, counted from 0.
     pub all: Vec<Rule>,
     /// The first production of each nonterminal, and at last the count of productions.
     firsts: Vec<usize>,
@@ -27,6 +29,7 @@ pub struct Rules {
 }
 
 impl Rules {
+    /// The productions of a grammar. Fails where memory runs out.
     pub fn new(alloc: Global, grammar: &Grammar) -> Result<Rules, AllocError>
         ensures { IfOk result (λ r. r.all.items ≡ rules_of grammar.now) }
     {

@@ -49,6 +49,7 @@ impl<'p> Asked<'p> {
         }
     }
 
+    /// The allocator that it was made with.
     pub fn alloc(&self) -> Global {
         self.alloc
     }
