@@ -102,7 +102,6 @@ fn with_name(mut listing: Listing, name: &Text) -> Result<Listing, AllocError>
     Ok(listing)
 }
 
-// A location of an item; without a location type it counts as the default.
 /// The location as it was given where the grammar has a location type, else the default.
 pub fn located(is_located: bool, at: Loc) -> Loc
     ensures { result ≡ located is_located at }
