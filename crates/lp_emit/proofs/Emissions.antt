@@ -1,5 +1,5 @@
 -- A text of what was built, and why there is none.
-use Rattle.std.proofs.Common.{◌≡◌, List, ℕ, Result, Ok, Err, IfOk, inr, subst, sym}
+use Rattle.std.proofs.Common.{◌≡◌, List, ℕ, Result, Ok, Err, IfOk, IsUtf8, inr, subst, sym}
 use Rattle.lp_program.specs.Reads.{ReadsAs}
 use Rattle.lp_repr.specs.declared.lr1.StartStates.{StartStates}
 use Rattle.lp_repr.specs.declared.repr.Grammar.{Grammar}
@@ -21,17 +21,18 @@ pub emittable : (g : Grammar) (states : List StartStates) → MayBeEmitted g sta
 emittable g states m = record { start = m.buildable.sound.0.0; valid = m.buildable.sound.1; counts = m.buildable.counts; tabled = m.tabled; texts = m.texts }
 
 pub emission :
-    {S E : Type 0} (g : Grammar) (states : List StartStates) (options : Options) (bytes : S → List ℕ) (result : Result S E) (program : Program) →
+    {S E : Type 0} (g : Grammar) (states : List StartStates) (options : Options) (bytes : S → List ℕ) (utf8 : (s : S) → IsUtf8 (bytes s)) (result : Result S E) (program : Program) →
     MayBeEmitted g states → IsBuilt g states program → IsFitting program → IfOk result (λ t. bytes t ≡ text_of options program) →
     IfOk result (λ t. IsEmission g states options (bytes t))
-emission g states options bytes (Ok t) program may is fits same = record {
+emission g states options bytes utf8 (Ok t) program may is fits same = record {
   program = program;
   built = is;
   fitting = fits;
   printed = same;
+  utf8 = utf8 t;
   reads = λ read back. subst (λ text. ReadsAs text read) (sym same) (emitted_reads_back g states program options read (emittable g states may) is fits back);
 }
-emission g states options bytes (Err e) program may is fits same = same
+emission g states options bytes utf8 (Err e) program may is fits same = same
 
 -- what is refused of the program that is built is refused of the grammar and its states
 pub refuses : (g : Grammar) (states : List StartStates) (program : Program) (error : EmitError) → MayBeEmitted g states → IsBuilt g states program → RefusesProgram g program error → Refuses g states error

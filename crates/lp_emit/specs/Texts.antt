@@ -1,5 +1,6 @@
 -- The text of the parsers of a grammar.
 use Rattle.std.specs.Prelude.{◌≡◌, ℕ, List}
+use Rattle.std.specs.Str.{IsUtf8}
 use Rattle.lp_program.specs.Reads.{ReadsAs}
 use Rattle.lp_repr.specs.declared.lr1.StartStates.{StartStates}
 use Rattle.lp_repr.specs.declared.repr.Grammar.{Grammar}
@@ -10,11 +11,12 @@ use Rattle.lp_fitting.specs.Fitting.{IsFitting}
 use Rattle.lp_laws.specs.AsRead.{IsRead}
 use Rattle.lp_laws.specs.Laws.{text_of}
 
--- the bytes of the lines of the program that is built of a grammar and its states, whose texts may stand where they do; and it
--- reads as that program
+-- the bytes of the lines of the program that is built of a grammar and its states, whose texts may stand where they do; they are
+-- UTF-8, and read as that program
 pub record IsEmission (g : Grammar) (states : List StartStates) (options : Options) (text : List ℕ) : Type 0 where
   pub program : Program
   pub built : IsBuilt g states program
   pub fitting : IsFitting program
   pub printed : text ≡ text_of options program
+  pub utf8 : IsUtf8 text
   pub reads : (read : Program) → IsRead options.whitespace program read → ReadsAs text read

@@ -1,13 +1,14 @@
--- Programs whose texts may stand where they do, whatever stands below what.
-use Rattle.std.specs.Prelude.{◌≡◌, ℕ, ◌<◌, true, List, length, map, All}
+-- Programs whose texts may stand where they do.
+use Rattle.std.specs.Prelude.{◌≡◌, ℕ, ◌<◌, true, List, [], length, map, All}
 use Rattle.std.specs.Str.{IsUtf8}
 use Rattle.lp_form.specs.Templates.{holes_of}
 use Rattle.lp_form.specs.declared.template.Kind.{Kind}
 use Rattle.lp_tree.specs.declared.tree.Entry.{Entry}
 use Rattle.lp_tree.specs.declared.tree.Program.{Program}
 use Rattle.lp_spelling.specs.Fillings.{Fits}
-use Rattle.lp_program.specs.Trees.{note}
+use Rattle.lp_program.specs.Trees.{note, whole}
 use Rattle.lp_found.specs.Parted.{IsParted}
+use Rattle.lp_fitting.specs.Bodies.{BodiesSuit}
 use Rattle.lp_laws.specs.WellFormed.{HolesFill, IsNote, IsSteady, is_pattern}
 
 -- a text that may stand in a hole, and is not empty where it is a pattern
@@ -22,8 +23,9 @@ pub record HolesFit (prefix : List ℕ) (e : Entry) : Type 0 where
   pub notes : All IsNote (map note e.notes.items)
   pub steady : All IsSteady (map note e.notes.items)
 
--- of a program: the prefix isn't empty, and the holes of each part fit
+-- of a program: the prefix isn't empty, the holes of each part fit, and the bodies of actions suit the parameters before them
 pub record IsFitting (program : Program) : Type 0 where
   pub prefix_some : 0 < length program.prefix
   pub prefix_utf8 : IsUtf8 program.prefix
   pub parts : All (HolesFit program.prefix) program.entries.items
+  pub bodies : BodiesSuit program.prefix [] (whole program.entries.items)

@@ -1,8 +1,9 @@
 //! Programs whose texts may stand where they do.
 
-ghost use Rattle.std.specs.Prelude.{◌↔◌, IsTrue, IfOk};
+ghost use Rattle.std.specs.Prelude.{◌↔◌, All, IsTrue, IfOk};
 ghost use Rattle.lp_fitting.specs.Fitting.{HolesFit, IsFitting};
 
+use crate::bodies::bodies_suit;
 use crate::fills::holes_fill;
 use crate::notes::are_notes;
 use crate::parted::is_parted;
@@ -23,10 +24,23 @@ fn is_entry_fitting(alloc: Global, prefix: &str, entry: &Entry<'_>) -> Result<bo
     is_parted(alloc, prefix, entry.part, &entry.holes)
 }
 
+/// Whether the texts of all parts, and their notes, may stand where they do.
+fn are_fitting(alloc: Global, prefix: &str, entries: &[Entry<'_>]) -> Result<bool, AllocError>
+    ensures { IfOk result (λ b. IsTrue b ↔ All (HolesFit prefix.now) entries.now) }
+{
+    for entry in entries {
+        if !is_entry_fitting(alloc, prefix, entry)? {
+            return Ok(false);
+        }
+    }
+    Ok(true)
+}
+
 /// Whether the texts of a program may stand where they do: its prefix isn't empty, each hole of a
 /// part holds what its kind allows, with no pattern empty, they are found again in the lines that
-/// they are printed on, and each note is comments, of which no line ends with an opening bracket. It is told whatever stands below what, and doesn't look at the
-/// uses, the user code and the tables. An `Err` says that memory ran out.
+/// they are printed on, each note is comments, of which no line ends with an opening bracket, and each
+/// body of an action is told by the last parameter before it, or by its own first line. It doesn't look
+/// at the uses and the tables, nor at where user code ends. An `Err` says that memory ran out.
 pub fn is_fitting(alloc: Global, program: &Program<'_>) -> Result<bool, AllocError>
     ensures { IfOk result (λ b. IsTrue b ↔ IsFitting program.now) }
 {
@@ -34,10 +48,8 @@ pub fn is_fitting(alloc: Global, program: &Program<'_>) -> Result<bool, AllocErr
     if prefix.is_empty() {
         return Ok(false);
     }
-    for entry in &program.entries {
-        if !is_entry_fitting(alloc, prefix, entry)? {
-            return Ok(false);
-        }
+    if !are_fitting(alloc, prefix, &program.entries)? {
+        return Ok(false);
     }
-    Ok(true)
+    bodies_suit(alloc, prefix, &program.entries)
 }

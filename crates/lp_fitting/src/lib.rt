@@ -2,6 +2,7 @@
 //! as it.
 #![tactic(auto)]
 
+mod bodies;
 mod fills;
 mod fitting;
 mod notes;

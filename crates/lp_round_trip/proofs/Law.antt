@@ -21,8 +21,8 @@ use Rattle.lp_chosen.proofs.Existing.{never_refused}
 use Rattle.lp_chosen.proofs.Law.{chosen_is_it, programs_are_chosen}
 use Rattle.lp_printed.proofs.Law.{reads_told}
 use Rattle.lp_emit.specs.Texts.{IsEmission}
-use Rattle.lp_round_trip.proofs.Codes.{bodies_suit_told}
-use Rattle.lp_round_trip.specs.Laws.{AreBodiesTold, SuitingIsTold, FittingIsParted, EmissionIsChosen, EmissionIsRead, EmissionIsNotRefused}
+use Rattle.lp_round_trip.proofs.Printed.{bodies_suit_told, printed_suits}
+use Rattle.lp_round_trip.specs.Laws.{FittingIsParted, EmissionTellsBodies, EmissionIsChosen, EmissionIsRead, EmissionIsNotRefused}
 
 parted_within : (prefix : List ℕ) (n : ℕ) (es : List Entry) → All (HolesFit prefix) es → AreParted prefix (forest_within n es)
 unfolding forest_within
@@ -43,28 +43,6 @@ parted_whole prefix (e ∷ es) h =
 pub fitting_is_parted : FittingIsParted
 fitting_is_parted program h = parted_whole program.prefix program.entries.items h.parts
 
--- what is emitted reads as a program that is told
-emission_told : (g : Grammar) (states : List StartStates) (options : Options) (text : List ℕ) (e : IsEmission g states options text) (read : Program) → AreBodiesTold options e.program text → IsRead options.whitespace e.program read → ReadsTold text read
-emission_told g states options text e read bodies is = reads_told options.whitespace e.program read text (e.reads read is) (fitting_is_parted e.program e.fitting) bodies is
-
-pub emission_is_chosen : EmissionIsChosen
-emission_is_chosen g states options text e told u bodies same =
-    let r = each_is_read options.whitespace e.program in
-    let is = r.1 in
-    programs_are_chosen text r.0 told u (emission_told g states options text e r.0 bodies is) (same.0 ∙ sym is.prefix) (same.1 ∙ ap told_trees (sym is.trees))
-
-pub emission_is_read : EmissionIsRead
-emission_is_read g states options text e chosen u bodies c =
-    let r = each_is_read options.whitespace e.program in
-    let is = r.1 in
-    let same = chosen_is_it text r.0 chosen u (emission_told g states options text e r.0 bodies is) c in
-    (same.0 ∙ is.prefix, same.1 ∙ ap told_trees is.trees)
-
-pub emission_is_not_refused : EmissionIsNotRefused
-emission_is_not_refused g states options text e line u bodies refused =
-    let r = each_is_read options.whitespace e.program in
-    never_refused text r.0 line u (emission_told g states options text e r.0 bodies r.1) refused
-
 -- its prefix has bytes of words alone
 emission_words : (g : Grammar) (states : List StartStates) (options : Options) (text : List ℕ) (e : IsEmission g states options text) → are_words e.program.prefix ≡ true
 emission_words g states options text e =
@@ -74,5 +52,28 @@ emission_words g states options text e =
     let fits : is_prefix prefix ≡ true = sym (ap is_prefix is.prefix) ∙ (e.reads r.0 is).prefix_fits in
     prefix_words prefix e.fitting.prefix_utf8 (and_parts (ltb 0 (length prefix)) (is_identifier (prefix ++ codes "lalrpop_util")) fits).1
 
-pub suiting_is_told : SuitingIsTold
-suiting_is_told g states options text e s = bodies_suit_told e.program.prefix text [] _ (emission_words g states options text e) s
+pub emission_tells_bodies : EmissionTellsBodies
+emission_tells_bodies g states options text e =
+    bodies_suit_told e.program.prefix text [] _ (emission_words g states options text e) (printed_suits options.whitespace e.program.prefix [] (whole e.program.entries.items) e.fitting.bodies)
+
+-- what is emitted reads as a program that is told
+emission_told : (g : Grammar) (states : List StartStates) (options : Options) (text : List ℕ) (e : IsEmission g states options text) (read : Program) → IsRead options.whitespace e.program read → ReadsTold text read
+emission_told g states options text e read is = reads_told options.whitespace e.program read text (e.reads read is) (fitting_is_parted e.program e.fitting) (emission_tells_bodies g states options text e) is
+
+pub emission_is_chosen : EmissionIsChosen
+emission_is_chosen g states options text e told same =
+    let r = each_is_read options.whitespace e.program in
+    let is = r.1 in
+    programs_are_chosen text r.0 told e.utf8 (emission_told g states options text e r.0 is) (same.0 ∙ sym is.prefix) (same.1 ∙ ap told_trees (sym is.trees))
+
+pub emission_is_read : EmissionIsRead
+emission_is_read g states options text e chosen c =
+    let r = each_is_read options.whitespace e.program in
+    let is = r.1 in
+    let same = chosen_is_it text r.0 chosen e.utf8 (emission_told g states options text e r.0 is) c in
+    (same.0 ∙ is.prefix, same.1 ∙ ap told_trees is.trees)
+
+pub emission_is_not_refused : EmissionIsNotRefused
+emission_is_not_refused g states options text e line refused =
+    let r = each_is_read options.whitespace e.program in
+    never_refused text r.0 line e.utf8 (emission_told g states options text e r.0 r.1) refused

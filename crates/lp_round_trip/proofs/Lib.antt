@@ -1,2 +1,4 @@
+pub mod Comments
 pub mod Codes
+pub mod Printed
 pub mod Law

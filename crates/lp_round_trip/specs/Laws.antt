@@ -1,6 +1,5 @@
--- What the laws say: an emitted text whose bodies of actions are told is read as the program that was built.
+-- What the laws say: an emitted text is read as the program that was built.
 use Rattle.std.specs.Prelude.{◌≡◌, ℕ, List, []}
-use Rattle.std.specs.Str.{IsUtf8}
 use Rattle.lp_repr.specs.declared.lr1.StartStates.{StartStates}
 use Rattle.lp_repr.specs.declared.repr.Grammar.{Grammar}
 use Rattle.lp_tree.specs.declared.tree.Program.{Program}
@@ -13,7 +12,6 @@ use Rattle.lp_shown.specs.Laws.{AreParted}
 use Rattle.lp_chosen.specs.Laws.{BodiesTold}
 use Rattle.lp_printed.specs.Laws.{printed_trees}
 use Rattle.lp_emit.specs.Texts.{IsEmission}
-use Rattle.lp_round_trip.specs.Codes.{BodiesSuit}
 
 -- where the texts of a program may stand where they do, all its holes are parted
 abbrev pub FittingIsParted : Type 0
@@ -23,25 +21,22 @@ FittingIsParted = (program : Program) → IsFitting program → AreParted progra
 abbrev pub AreBodiesTold : Options → Program → List ℕ → Type 0
 AreBodiesTold options program text = BodiesTold program.prefix text [] (printed_trees options.whitespace program)
 
--- what is emitted tells bodies of actions that their parameters or their own code tell
-abbrev pub SuitingIsTold : Type 0
-SuitingIsTold = (g : Grammar) (states : List StartStates) (options : Options) (text : List ℕ) (e : IsEmission g states options text) → BodiesSuit e.program.prefix [] (printed_trees options.whitespace e.program) → AreBodiesTold options e.program text
+-- what is emitted tells all of them
+abbrev pub EmissionTellsBodies : Type 0
+EmissionTellsBodies = (g : Grammar) (states : List StartStates) (options : Options) (text : List ℕ) (e : IsEmission g states options text) → AreBodiesTold options e.program text
 
 -- a program has the prefix of one that was printed, and its trees, as far as a text tells them
 abbrev pub IsAsPrinted : Options → Program → Program → Type 0
 IsAsPrinted options program told = (told.prefix ≡ program.prefix) × (whole told.entries.items ≡ printed_trees options.whitespace program)
 
--- what is emitted, and tells the bodies of actions, is chosen as each program that is as was printed
+-- what is emitted is chosen as each program that is as was printed
 abbrev pub EmissionIsChosen : Type 0
-EmissionIsChosen = (g : Grammar) (states : List StartStates) (options : Options) (text : List ℕ) (e : IsEmission g states options text) (told : Program) → IsUtf8 text → AreBodiesTold options e.program text →
-    IsAsPrinted options e.program told → IsChosen text told
+EmissionIsChosen = (g : Grammar) (states : List StartStates) (options : Options) (text : List ℕ) (e : IsEmission g states options text) (told : Program) → IsAsPrinted options e.program told → IsChosen text told
 
 -- and as no other
 abbrev pub EmissionIsRead : Type 0
-EmissionIsRead = (g : Grammar) (states : List StartStates) (options : Options) (text : List ℕ) (e : IsEmission g states options text) (chosen : Program) → IsUtf8 text → AreBodiesTold options e.program text →
-    IsChosen text chosen → IsAsPrinted options e.program chosen
+EmissionIsRead = (g : Grammar) (states : List StartStates) (options : Options) (text : List ℕ) (e : IsEmission g states options text) (chosen : Program) → IsChosen text chosen → IsAsPrinted options e.program chosen
 
 -- and refused only for want of memory
 abbrev pub EmissionIsNotRefused : Type 0
-EmissionIsNotRefused = (g : Grammar) (states : List StartStates) (options : Options) (text : List ℕ) (e : IsEmission g states options text) (line : ℕ) → IsUtf8 text → AreBodiesTold options e.program text →
-    IsRefused text (fault.NoForm line) → ⊥
+EmissionIsNotRefused = (g : Grammar) (states : List StartStates) (options : Options) (text : List ℕ) (e : IsEmission g states options text) (line : ℕ) → IsRefused text (fault.NoForm line) → ⊥

@@ -1,4 +1,5 @@
 use Rattle.std.proofs.Common.{rules, string_bytes}
+use Rattle.std.proofs.lemmas.Str.{IsUtf8-string_bytes}
 use Rattle.lp_emit.specs.Causes.{Refuses}
 use Rattle.lp_emit.proofs.Emissions.{emission, refuses}
 use Rattle.lp_emit.proofs.emit.emitted_text.Goals as goal
@@ -11,4 +12,4 @@ returns-in_err-check_fit-clause-cause c =
 
 pub returns-clause-text : goal.returns-clause-text
 returns-clause-text c =
-    emission c.args.grammar.now c.args.states.now c.args.options.now (λ t. string_bytes t) c.printed.result c.in_ok-program.program c.in_ok-check.ensures c.in_ok-program.ensures c.in_ok-check_fit.ensures c.printed.ensures.text
+    emission c.args.grammar.now c.args.states.now c.args.options.now (λ t. string_bytes t) (λ t. IsUtf8-string_bytes t) c.printed.result c.in_ok-program.program c.in_ok-check.ensures c.in_ok-program.ensures c.in_ok-check_fit.ensures c.printed.ensures.text

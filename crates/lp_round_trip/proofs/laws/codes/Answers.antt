@@ -1,4 +1,5 @@
-use Rattle.lp_round_trip.proofs.Codes.{codes_are_told, bodies_suit_told}
+use Rattle.lp_round_trip.proofs.Codes.{codes_are_told}
+use Rattle.lp_round_trip.proofs.Printed.{bodies_suit_told}
 use Rattle.lp_round_trip.proofs.laws.codes.Goals as goal
 
 pub returns-clause-code : goal.returns-clause-code

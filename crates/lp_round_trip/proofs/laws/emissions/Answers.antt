@@ -1,4 +1,4 @@
-use Rattle.lp_round_trip.proofs.Law.{fitting_is_parted, emission_is_chosen, emission_is_read, emission_is_not_refused, suiting_is_told}
+use Rattle.lp_round_trip.proofs.Law.{fitting_is_parted, emission_is_chosen, emission_is_read, emission_is_not_refused, emission_tells_bodies}
 use Rattle.lp_round_trip.proofs.laws.emissions.Goals as goal
 
 pub returns-clause-parted : goal.returns-clause-parted
@@ -13,5 +13,5 @@ returns-clause-read c = emission_is_read
 pub returns-clause-never : goal.returns-clause-never
 returns-clause-never c = emission_is_not_refused
 
-pub returns-clause-suits : goal.returns-clause-suits
-returns-clause-suits c = suiting_is_told
+pub returns-clause-bodies : goal.returns-clause-bodies
+returns-clause-bodies c = emission_tells_bodies
