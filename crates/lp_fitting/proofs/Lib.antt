@@ -1,4 +1,4 @@
 pub mod Each
 pub mod Blanks
 pub mod Parts
-pub mod Bodies
+pub mod Walking

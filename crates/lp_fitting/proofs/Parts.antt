@@ -10,10 +10,11 @@ use Rattle.lp_tree.specs.declared.tree.Entry.{Entry}
 use Rattle.lp_tree.specs.declared.tree.Program.{Program}
 use Rattle.lp_tree.specs.declared.tree.RowNote.{RowNote}
 use Rattle.lp_spelling.specs.LineReading.{kind_of}
-use Rattle.lp_program.specs.Trees.{note}
+use Rattle.lp_program.specs.Trees.{note, whole}
 use Rattle.lp_laws.specs.LineTexts.{ends_open}
 use Rattle.lp_laws.specs.WellFormed.{HolesFill, IsNote, IsSteady, IsTrailing}
 use Rattle.lp_found.specs.Parted.{IsParted}
+use Rattle.lp_fitting.specs.Bodies.{BodiesSuit}
 use Rattle.lp_fitting.specs.Fitting.{HolesFit, IsFitting, MayStand}
 
 -- a note whose lines and comments are such
@@ -83,18 +84,20 @@ part_told prefix e (Ok b) notes filling told = (
 
 -- a whole program
 module _ (program : Program) (prefix : List ℕ) (entries : List Entry) (same_prefix : prefix ≡ program.prefix) (same_entries : entries ≡ program.entries.items) where
-  pub program_fails : (IsTrue false ↔ All (HolesFit prefix) entries) → IsTrue false ↔ IsFitting program
-  program_fails told = (
+  pub program_fails : (r : Bool) → r ≡ false → (IsTrue r ↔ All (HolesFit prefix) entries) → IsTrue false ↔ IsFitting program
+  program_fails r fails told = (
     λ t. absurd (false≢true t),
-    λ w. told.1 (subst (λ p. All (HolesFit p) entries) (sym same_prefix) (subst (All (HolesFit program.prefix)) (sym same_entries) w.parts)),
+    λ w. absurd (false≢true (sym fails ∙ told.1 (subst (λ p. All (HolesFit p) entries) (sym same_prefix) (subst (All (HolesFit program.prefix)) (sym same_entries) w.parts)))),
   )
 
-  pub program_told : (length prefix == 0) ≡ false → IsUtf8 prefix → (IsTrue true ↔ All (HolesFit prefix) entries) → IsTrue true ↔ IsFitting program
-  program_told some utf8 told = (
+  pub program_told : {E : Type 0} (q : Result Bool E) → (length prefix == 0) ≡ false → IsUtf8 prefix → All (HolesFit prefix) entries → IfOk q (λ b. IsTrue b ↔ BodiesSuit prefix [] (whole entries)) → IfOk q (λ b. IsTrue b ↔ IsFitting program)
+  program_told (Err x) some utf8 parts told = tt
+  program_told (Ok b) some utf8 parts told = (
     λ t. record {
       prefix_some = let ne = eqb-false (length prefix) 0 some in subst (λ (p : List ℕ). 0 < length p) same_prefix (omega arith);
       prefix_utf8 = subst IsUtf8 same_prefix utf8;
-      parts = subst (All (HolesFit program.prefix)) same_entries (subst (λ p. All (HolesFit p) entries) same_prefix (told.0 refl));
+      parts = subst (All (HolesFit program.prefix)) same_entries (subst (λ p. All (HolesFit p) entries) same_prefix parts);
+      bodies = subst (λ es. BodiesSuit program.prefix [] (whole es)) same_entries (subst (λ p. BodiesSuit p [] (whole entries)) same_prefix (told.0 t));
     },
-    λ w. refl,
+    λ w. told.1 (subst (λ es. BodiesSuit prefix [] (whole es)) (sym same_entries) (subst (λ p. BodiesSuit p [] (whole program.entries.items)) (sym same_prefix) w.bodies)),
   )

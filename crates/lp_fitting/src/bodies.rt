@@ -23,9 +23,11 @@ fn begins_inlined(alloc: Global, prefix: &str, line: &str) -> Result<bool, Alloc
     let call = format!(in alloc; "{prefix}action")?;
     let outer = format!(in alloc; "Ok({prefix}action")?;
     let line = line.as_bytes();
-    Ok(line.starts_with(span.as_bytes())
-        || line.starts_with(call.as_bytes())
-        || line.starts_with(outer.as_bytes()))
+    Ok(
+        line.starts_with(span.as_bytes())
+            || line.starts_with(call.as_bytes())
+            || line.starts_with(outer.as_bytes()),
+    )
 }
 
 /// Whether the first line of user code that counts, if there is one, doesn't begin as those of

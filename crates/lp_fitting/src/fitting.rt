@@ -48,8 +48,9 @@ pub fn is_fitting(alloc: Global, program: &Program<'_>) -> Result<bool, AllocErr
     if prefix.is_empty() {
         return Ok(false);
     }
-    if !are_fitting(alloc, prefix, &program.entries)? {
+    let entries = program.entries.as_slice();
+    if !are_fitting(alloc, prefix, entries)? {
         return Ok(false);
     }
-    bodies_suit(alloc, prefix, &program.entries)
+    bodies_suit(alloc, prefix, entries)
 }

@@ -5,7 +5,7 @@ use denote.Text.{Utf8}
 use Rattle.lp_program.specs.Parameters.{last_parameter}
 use Rattle.lp_program.specs.Trees.{content, forest}
 use Rattle.lp_fitting.specs.Bodies.{BodiesSuit}
-use Rattle.lp_fitting.proofs.Bodies.{SuitFrom}
+use Rattle.lp_fitting.proofs.Walking.{SuitFrom}
 use Rattle.lp_fitting.proofs.bodies.+suiting.Given as goal
 
 abbrev pub decreases-tree_suits : goal.decreases-tree_suits
