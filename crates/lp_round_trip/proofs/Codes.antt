@@ -50,11 +50,11 @@ lines_in (x ∷ text) = elim (cases_Bool (x == 10)) [
   | inr n ↦ elim (lines_in text) [
     | inl h ↦ inl (and_from (is_text x) (is_on_line text) (not_from_false (x == 10) n) h)
     | inr f ↦ inr (record {
-        line = x ∷ f.line;
-        others = f.others;
-        whole = ap (λ (t : List ℕ). x ∷ t) f.whole;
-        on_line = and_from (is_text x) (is_on_line f.line) (not_from_false (x == 10) n) f.on_line;
-      })
+      line = x ∷ f.line;
+      others = f.others;
+      whole = ap (λ (t : List ℕ). x ∷ t) f.whole;
+      on_line = and_from (is_text x) (is_on_line f.line) (not_from_false (x == 10) n) f.on_line;
+    })
   ]
 ]
 
@@ -306,6 +306,7 @@ one_closed prefix code r w u on other reaches = elim (cases_Bool (is_skipped (tr
           let none : (trimmed code).shown ≡ [] = nil_from_length (trimmed code).shown (omega (arith, z)) in
           absurd (both_ways (is_skipped (trim_start code)) n (ap is_skipped ((trimmed code).trim ∙ ap encode_utf8_all none)))
     ]
+
     passed : (t : Trimmed code) → IsComment t.shown → Other prefix (code ++ 125 ∷ r)
     passed t (inl none) = blank_before prefix code r w u on t none
     passed t (inr c) =
@@ -343,6 +344,7 @@ reaches_over a x rest u on skips le reaches = passed (trimmed a) (comment_chars 
   where
     parts : (t : Trimmed a) → chars (a ++ 10 ∷ x) ≡ t.spaces ++ (t.shown ++ 10 ∷ chars x)
     parts t = chars-append a (10 ∷ x) u ∙ ap (λ (cs : List ℕ). cs ++ chars (10 ∷ x)) t.whole ∙ append_assoc t.spaces t.shown (chars (10 ∷ x)) ∙ ap (λ (cs : List ℕ). t.spaces ++ (t.shown ++ cs)) (feed_chars x)
+
     passed : (t : Trimmed a) → IsComment t.shown → Reaches (chars x) rest
     passed t (inl none) =
         let there : Reaches (t.spaces ++ (10 ∷ chars x)) rest = subst (λ (cs : List ℕ). Reaches cs rest) (parts t ∙ ap (λ (cs : List ℕ). t.spaces ++ (cs ++ 10 ∷ chars x)) none) reaches in
@@ -367,8 +369,10 @@ many_told prefix a b y u on other tail later = elim (cases_Bool (is_skipped (tri
   where
     parts : IsUtf8 a × IsUtf8 b
     parts = utf8_parts a b u
+
     whole : (a ++ 10 ∷ b) ++ y ≡ a ++ 10 ∷ (b ++ y)
     whole = append_assoc a (10 ∷ b) y
+
     over : is_skipped (trim_start a) ≡ true → Tail prefix (a ++ 10 ∷ b) y → Tail prefix b y
     over s (inl z) = inl z
     over s (inr r) =
@@ -421,7 +425,7 @@ code_other : (prefix code left rest : List ℕ) → are_words prefix ≡ true �
 code_other prefix code left rest w o c =
     let closes : rest ≡ 125 ∷ drop 1 rest = starts_ok (codes "}") rest c.closes in
     elim (code_stands code left rest c) [
-      | inl e ↦ subst (Other prefix) (sym e) (told_in (length code) prefix code rest (omega arith) w o.utf8 o.other (inr (drop 1 rest, closes, c.stops.0, subst (λ (t : List ℕ). Splits (chars t) c.stops.0 (chars rest)) e c.stops.1.splits)))
+      | inl e ↦ subst (Other prefix) (sym e) (told_in (length code) prefix code rest (omega arith) w o.utf8 o.other (inr (drop 1 rest, closes, (c.stops.0, subst (λ (t : List ℕ). Splits (chars t) c.stops.0 (chars rest)) e c.stops.1.splits))))
       | inr e ↦ subst (Other prefix) (sym e) (told_in (length code) prefix code (10 ∷ rest) (omega arith) w o.utf8 o.other (inl (rest, refl, subst (Other prefix) (sym closes) (brace_other prefix (drop 1 rest) w))))
     ]
 

@@ -1,14 +1,14 @@
 -- A cut doesn't stop within a comment.
-use Rattle.std.proofs.Common.{◌≡◌, ℕ, ◌+◌, ◌-◌, ◌==◌, ◌<◌, ◌≤◌, zero, suc, Bool, true, false, cond, not, ◌&&◌, ◌||◌, List, [], ◌∷◌, ◌++◌, length, length-append, Option, Some, None, refl, sym, ap, ◌∙◌, subst, arith, eqb, inl, inr}
+use Rattle.std.proofs.Common.{◌≡◌, ℕ, ◌+◌, ◌-◌, ◌==◌, ◌≤◌, zero, suc, true, false, cond, ◌&&◌, List, [], ◌∷◌, ◌++◌, length, length-append, Option, Some, None, refl, sym, ap, ◌∙◌, subst, arith, eqb, inl, inr}
 use Rattle.std.specs.Char.{is_whitespace, encode_utf8}
 use Rattle.std.specs.List.{list_all}
 use Rattle.std.specs.Str.{encode_utf8_all}
-use Rattle.std.proofs.lemmas.Bool.{and_parts, both_ways, cases_Bool, cond-false, eqb-true, ne_eqb, or_from}
-use Rattle.lp_tok.specs.Signs.{line_feed, quote, apostrophe, left_parenthesis, right_parenthesis, star, comma, slash, semicolon, left_bracket, backslash, right_bracket, letter_r, left_brace, right_brace, hash}
+use Rattle.std.proofs.lemmas.Bool.{and_parts, both_ways, cases_Bool, cond-false, eqb-true, ne_eqb}
+use Rattle.lp_tok.specs.Signs.{line_feed, quote, apostrophe, star, slash, backslash, letter_r, hash}
 use Rattle.lp_tok.specs.Scans.{starts_word, continues_word, after_word, from_char, from_unescaped, past, past_any, hashes, after_hashes, past_hashes, RawEnd, end_here, raw_end, after_comment}
 use Rattle.lp_tok.specs.declared.tok.ErrorCode.{ErrorCode}
 use Rattle.lp_tok.specs.declared.tok.ErrorCode.TheVariants.{UnterminatedStringLiteral, ExpectedStringLiteral, UnterminatedBlockComment}
-use Rattle.lp_tok.specs.CodePieces.{Piece, Whole, Fault, Nothing, kind_of, ended, past_maybe, after_quoted, quoted_piece, raw_string_piece, hashed_piece, raw_piece, slash_piece, code_piece}
+use Rattle.lp_tok.specs.CodePieces.{Piece, Whole, Fault, kind_of, ended, past_maybe, after_quoted, quoted_piece, raw_string_piece, hashed_piece, raw_piece, slash_piece, code_piece}
 use Rattle.lp_tok.specs.Cut.{Splits, splits_none, splits_one}
 use Rattle.lp_spelling.specs.Counting.{is_text}
 use Rattle.lp_laws.specs.LineTexts.{is_on_line}

@@ -1,15 +1,15 @@
 -- Bodies of actions that suit do so in the printed text, and are told there.
-use Rattle.std.proofs.Common.{◌≡◌, ℕ, ◌==◌, ◌<◌, zero, suc, Bool, true, false, if◌then◌else◌, List, [], ◌∷◌, ◌++◌, length, map, get_or, drop, replicate, codes, inl, inr, refl, sym, ◌∙◌, ap, subst, arith, length-append}
+use Rattle.std.proofs.Common.{◌≡◌, ℕ, ◌+◌, zero, suc, Bool, true, false, if◌then◌else◌, List, [], ◌∷◌, ◌++◌, map, get_or, drop, replicate, codes, inl, inr, refl, sym, ◌∙◌, ap, subst, arith}
 use Rattle.std.specs.Char.{encode_utf8}
 use Rattle.std.specs.Str.{IsUtf8, bytes_eq, trim_start}
 use Rattle.std.proofs.lemmas.Bool.{both_ways, cases_Bool, cond-true, cond-false}
 use Rattle.std.proofs.lemmas.List.{map-append}
-use Rattle.std.proofs.lemmas.Str.{IsUtf8-append, IsUtf8-from_ascii, IsUtf8-nil}
+use Rattle.std.proofs.lemmas.Str.{IsUtf8-append, IsUtf8-nil}
 use Rattle.lp_form.specs.Templates.{steps_of}
 use Rattle.lp_form.specs.contracts.part.PartPartialEq.TheImpl as equality
 use Rattle.lp_form.specs.declared.part.Part.{Part}
 use Rattle.lp_form.specs.declared.part.Part.TheVariants as part
-use Rattle.lp_spelling.specs.Counting.{is_text, line_len, front_line, behind_line, is_skipped, settled}
+use Rattle.lp_spelling.specs.Counting.{line_len, front_line, behind_line, is_skipped, settled}
 use Rattle.lp_spelling.proofs.Counting.{settled_counts, settled_skips, settled_none}
 use Rattle.lp_program.specs.OwnLines.{hole}
 use Rattle.lp_program.specs.Parameters.{first_or, last_parameter, parameter_after, parameters_of}
@@ -69,9 +69,9 @@ code_other : (w : Bool) (prefix code : List ℕ) → IsOtherCode prefix code →
 code_other w prefix code o = elim (cases_Bool (bytes_eq code (codes "()"))) [
   | inl y ↦ subst (IsOtherCode prefix) (sym (cond-true (bytes_eq code (codes "()")) [] (blanks w 4 ++ code) y)) (record { utf8 = IsUtf8-nil; other = ap (λ (t : List ℕ). begins_inlined prefix (front_line t)) settled_none ∙ nothing_begun prefix })
   | inr n ↦ subst (IsOtherCode prefix) (sym (cond-false (bytes_eq code (codes "()")) [] (blanks w 4 ++ code) n)) (record {
-      utf8 = IsUtf8-append (blanks w 4) code (utf8_blanks w) o.utf8;
-      other = ap (λ (t : List ℕ). begins_inlined prefix (front_line t)) (indented_settled w code) ∙ o.other;
-    })
+    utf8 = IsUtf8-append (blanks w 4) code (utf8_blanks w) o.utf8;
+    other = ap (λ (t : List ℕ). begins_inlined prefix (front_line t)) (indented_settled w code) ∙ o.other;
+  })
 ]
 
 user_suits : (w : Bool) (prefix : List ℕ) (whose : Parameters) (code : List ℕ) → SuitsUser prefix whose code → SuitsUser prefix whose (code_read w code)
@@ -129,8 +129,8 @@ printed_suits w prefix before (tree c below after) s = (
   subst (λ (x : List ℕ). SuitsBody prefix (parameters_of prefix x) (told w c).part (told w c).holes) (sym (last_same w [] before)) (content_suits w prefix (parameters_of prefix (last_parameter [] before)) c s.0),
   printed_suits w prefix [] below s.1,
   subst (λ (cs : List Content). BodiesSuit prefix cs (told_trees (forest_read w after)))
-  (map-append (told w) before (c ∷ contents below) ∙ ap (λ (x : List Content). map (told w) before ++ (told w c ∷ x)) (sym (contents_same w below)))
-  (printed_suits w prefix (before ++ (c ∷ contents below)) after s.2),
+      (map-append (told w) before (c ∷ contents below) ∙ ap (λ (x : List Content). map (told w) before ++ (told w c ∷ x)) (sym (contents_same w below)))
+      (printed_suits w prefix (before ++ (c ∷ contents below)) after s.2),
 )
 
 -- where they suit, they are told
