@@ -1,6 +1,7 @@
 //! The generated grammar, emitted and run.
 
 ghost use Rattle.std.specs.Prelude.{◌≡◌, ◌++◌, ℕ, List, [], Option, None, Some, IfErr, IfOk, OnOk, codes, length, string_bytes};
+ghost use Rattle.lp_program.specs.Reads.{ReadsAs};
 ghost use Rattle.lp_tool.specs.Causes.{IsOfFile};
 ghost use Rattle.lp_tool.specs.LinesTold.{IsOfNoLine};
 ghost use Rattle.lp_text_run.specs.Courses.{Course, IsCourse};
@@ -14,7 +15,7 @@ use crate::status::Status;
 use crate::tool::{Prepared, emitted};
 use lp_driver::RunError;
 use lp_generated::{make_items, make_text};
-use lp_program::{Program, read_program};
+use lp_program::{Program, ReadFault, read_program};
 use lp_repr::StartStates;
 use lp_repr::values::RunItem;
 use lp_run::{Run, run_program};
@@ -44,7 +45,14 @@ pub fn prepare_generated(alloc: Global, levels: u8) -> Result<Prepared, Stop>
         Ok(text) => text,
         Err(status) => return Err(Stop::with(status, file.plain)),
     };
-    let output = match report(alloc, text.as_str(), states, levels) {
+    let shown = text.as_str();
+    let program = match read_program(alloc, shown) {
+        Ok(program) => program,
+        // What is emitted is read.
+        Err(ReadFault::NoForm { .. }) => unreachable!(),
+        Err(ReadFault::Memory) => return Err(Stop::bare(Status::Memory)),
+    };
+    let output = match report(alloc, shown, &program, states, levels) {
         Ok(output) => output,
         Err(AllocError) => return Err(Stop::bare(Status::Memory)),
     };
@@ -66,17 +74,19 @@ fn state_count(tables: &[StartStates]) -> usize
     }
 }
 
-/// The lines that tell of a generated text and of its run.
-fn report(alloc: Global, text: &str, states: usize, levels: u8) -> Result<String, AllocError>
-    ensures { IfOk result (λ output. IsReport levels text.now states (length text.now) (string_bytes output)) }
+/// The lines that tell of a generated text, and of the run of the program that it reads as.
+fn report(
+    alloc: Global,
+    text: &str,
+    program: &Program<'_>,
+    states: usize,
+    levels: u8,
+) -> Result<String, AllocError>
+    ensures { IfOk result (λ output. ReadsAs text.now program.now → IsReport levels text.now states (length text.now) (string_bytes output)) }
 {
     let mut output = sizes(alloc, states, text.len())?;
-    let program = match read_program(alloc, text) {
-        Ok(program) => program,
-        Err(_) => return Err(AllocError),
-    };
     let items = make_items(alloc, u32::from(levels))?;
-    write_course(alloc, &program, items.as_slice(), &mut output)?;
+    write_course(alloc, program, items.as_slice(), &mut output)?;
     Ok(output)
 }
 
