@@ -19,7 +19,7 @@ use lp_emit::{EmitError, emitted_text};
 use lp_plain::{LineFault, PlainGrammar, ReadError, TokenLine, read_all, read_token_lines};
 use lp_repr::repr::Grammar;
 use lp_repr::{Items, StartStates, Text};
-use lp_text_run::run_text;
+use lp_text_run::{TextRunFault, run_text};
 use lp_write::sinks::write_all;
 use lp_write::{Options, Sink, Source};
 use std::alloc::{AllocError, Global};
@@ -210,7 +210,9 @@ fn text_and_runs(alloc: Global, file: &File, options: &Options) -> Result<(usize
             Ok(output) => Ok(output),
             Err(AllocError) => Err(Status::Memory),
         },
-        // An emitted text reads, its token lines name its starts, and each parameter has a value.
+        // What is emitted is read.
+        Err(TextRunFault::NoForm { .. }) => unreachable!(),
+        // Its token lines name its starts, and each parameter has a value.
         Err(_) => Err(Status::Memory),
     }
 }

@@ -1,4 +1,9 @@
 use Rattle.std.proofs.Common.{rules, IfErr, ◌∷◌, ◌++◌, ◌∙◌, codes, ap, subst, string_bytes}
+use Rattle.lp_program.specs.Choosing.{IsRefused}
+use Rattle.lp_program.specs.declared.read.reader.ReadFault.TheVariants as read
+use Rattle.lp_round_trip.proofs.Law.{emission_is_not_refused}
+use Rattle.lp_text_run.specs.Blocks.{IsRunFault}
+use Rattle.lp_text_run.specs.declared.text_run.TextRunFault.TheVariants.{NoForm}
 use Rattle.lp_tool.specs.LinesTold.{IsOfNoLine}
 use Rattle.lp_tool.specs.Outputs.{AreLinesOf}
 use Rattle.lp_tool.proofs.LinesTold.{read_told}
@@ -26,3 +31,12 @@ returns-in-Ok-joined-clause-output c = record {
   told = runs_of c.args.file.now.lowered (string_bytes c.in_ok-text.text) c.as_str.result.now c.in-Ok.params.items c.as_slice-3.result.now c.in_ok-lines.lines.items c.as_slice-2.result.now c.in-Ok-run_text.blocks.items c.as_str.ensures.value c.as_slice-3.ensures.value c.as_slice-2.ensures.value c.in-Ok.ensures c.in-Ok-run_text.ensures.blocks;
   whole = c.in-Ok-joined.ensures.whole ∙ ap (λ b. string_bytes c.in_ok-text.text ++ (codes "---" ++ 10 ∷ b)) c.as_slice-in-Ok-run_text.ensures.value;
 }
+
+-- what is emitted is read
+pub unreachable-requires : goal.unreachable-requires
+unreachable-requires c =
+    let line = c.in-Err-NoForm.field-0-0 in
+    let refused : IsRunFault c.as_str.result.now c.as_slice-3.result.now c.as_slice-2.result.now (NoForm line)
+    = subst (IsRunFault c.as_str.result.now c.as_slice-3.result.now c.as_slice-2.result.now) c.in-Err-NoForm.field-0-is c.in-Err-NoForm.ensures.fault in
+    emission_is_not_refused c.args.file.now.lowered c.args.file.now.tables.items c.args.options.now (string_bytes c.in_ok-text.text) c.in_ok-text.ensures.text line
+    (subst (λ t. IsRefused t (read.NoForm line)) c.as_str.ensures.value refused)
