@@ -9,7 +9,9 @@ use Rattle.lp_lines.specs.Scan.{all_some}
 use Rattle.lp_lines.specs.TokenLines.{line_of, lines_of}
 use Rattle.lp_lines.specs.Vocabularies.{vocabulary_of}
 use Rattle.lp_lines.specs.declared.token_line.TokenLine.{TokenLine}
+use Rattle.lp_program.specs.Choosing.{IsRefused}
 use Rattle.lp_program.specs.Reads.{ReadsAs}
+use Rattle.lp_program.specs.declared.read.reader.ReadFault.TheVariants.{NoForm}
 use Rattle.lp_repr.specs.declared.lr1.StartStates.{StartStates}
 use Rattle.lp_repr.specs.declared.repr.Grammar.{Grammar}
 use Rattle.lp_repr.specs.declared.values.Event.{Event}
@@ -41,6 +43,10 @@ pub record IsRunOutput (g : Grammar) (tables : List StartStates) (options : Opti
   pub blocks : List ℕ
   pub told : AreRuns text (values_of g) lines blocks
   pub whole : output ≡ text ++ (codes "---" ++ 10 ∷ blocks)
+
+-- a text is refused only for want of memory
+abbrev pub IsNeverRefused : List ℕ → Type 0
+IsNeverRefused text = (line : ℕ) → IsRefused text (NoForm line) → ⊥
 
 -- the number of the states of the first start
 abbrev pub first_count : List StartStates → ℕ

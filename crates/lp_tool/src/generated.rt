@@ -5,7 +5,7 @@ ghost use Rattle.lp_program.specs.Reads.{ReadsAs};
 ghost use Rattle.lp_tool.specs.Causes.{IsOfFile};
 ghost use Rattle.lp_tool.specs.LinesTold.{IsOfNoLine};
 ghost use Rattle.lp_text_run.specs.Courses.{Course, IsCourse};
-ghost use Rattle.lp_tool.specs.Outputs.{IsReport, course_text, first_count, size_text};
+ghost use Rattle.lp_tool.specs.Outputs.{IsNeverRefused, IsReport, course_text, first_count, size_text};
 ghost use Rattle.lp_tool.specs.TextTold.{OfFile, OfText, Spells, TellsText};
 ghost use Rattle.lp_tool.specs.Told.{IsAnswered, IsPrepared, Tells};
 ghost use Rattle.lp_tool.specs.declared.command.Command.{Command};
@@ -45,14 +45,7 @@ pub fn prepare_generated(alloc: Global, levels: u8) -> Result<Prepared, Stop>
         Ok(text) => text,
         Err(status) => return Err(Stop::with(status, file.plain)),
     };
-    let shown = text.as_str();
-    let program = match read_program(alloc, shown) {
-        Ok(program) => program,
-        // What is emitted is read.
-        Err(ReadFault::NoForm { .. }) => unreachable!(),
-        Err(ReadFault::Memory) => return Err(Stop::bare(Status::Memory)),
-    };
-    let output = match report(alloc, shown, &program, states, levels) {
+    let output = match report(alloc, text.as_str(), states, levels) {
         Ok(output) => output,
         Err(AllocError) => return Err(Stop::bare(Status::Memory)),
     };
@@ -74,20 +67,28 @@ fn state_count(tables: &[StartStates]) -> usize
     }
 }
 
-/// The lines that tell of a generated text, and of the run of the program that it reads as.
-fn report(
-    alloc: Global,
-    text: &str,
-    program: &Program<'_>,
-    states: usize,
-    levels: u8,
-) -> Result<String, AllocError>
-    ensures { IfOk result (λ output. ReadsAs text.now program.now → IsReport levels text.now states (length text.now) (string_bytes output)) }
+/// The lines that tell of a generated text and of its run.
+fn report(alloc: Global, text: &str, states: usize, levels: u8) -> Result<String, AllocError>
+    requires { IsNeverRefused text.now }
+    ensures { IfOk result (λ output. IsReport levels text.now states (length text.now) (string_bytes output)) }
 {
     let mut output = sizes(alloc, states, text.len())?;
+    let program = read_back(alloc, text)?;
     let items = make_items(alloc, u32::from(levels))?;
-    write_course(alloc, program, items.as_slice(), &mut output)?;
+    write_course(alloc, &program, items.as_slice(), &mut output)?;
     Ok(output)
+}
+
+/// The program that a text reads as which is never refused.
+fn read_back<'t>(alloc: Global, text: &'t str) -> Result<Program<'t>, AllocError>
+    requires { IsNeverRefused text.now }
+    ensures { IfOk result (ReadsAs text.now) }
+{
+    match read_program(alloc, text) {
+        Ok(program) => Ok(program),
+        Err(ReadFault::NoForm { .. }) => unreachable!(),
+        Err(ReadFault::Memory) => Err(AllocError),
+    }
 }
 
 /// Appends what is told of the run of these items.

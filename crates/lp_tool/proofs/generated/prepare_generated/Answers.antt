@@ -33,7 +33,7 @@ returns-clause-prepared c =
     let size : length (string_bytes c.in-Ok-emitted.text) ≡ c.len.result = search rules in
     let bytes : string_bytes c.in-Ok-report.output ≡ c.into_bytes.result.items = search rules in
     let lines : IsReport c.args.levels (string_bytes c.in-Ok-emitted.text) c.state_count-states.result (length (string_bytes c.in-Ok-emitted.text)) (string_bytes c.in-Ok-report.output) =
-    subst (λ t. IsReport c.args.levels t c.state_count-states.result (length t) (string_bytes c.in-Ok-report.output)) c.as_str-shown.ensures.value (c.in-Ok-report.ensures c.in-Ok-read_program.ensures.reads) in
+    subst (λ t. IsReport c.args.levels t c.state_count-states.result (length t) (string_bytes c.in-Ok-report.output)) c.as_str-2.ensures.value c.in-Ok-report.ensures in
     let report = report_of c.args.levels (string_bytes c.in-Ok-emitted.text) c.state_count-states.result (first_count c.in_ok-file.file.tables.items) (length (string_bytes c.in-Ok-emitted.text)) c.len.result (string_bytes c.in-Ok-report.output) c.into_bytes.result.items states size bytes lines in
     λ left. made_make c.args.levels left c.in_ok-file.file.plain g tables c.len.result c.into_bytes.result.items (string_bytes c.in-Ok-emitted.text) c.in_ok-file.ensures.file.lowered c.in_ok-file.ensures.file.tables may text len report
 
@@ -70,8 +70,7 @@ pub emitted-requires-clause-spelled : goal.emitted-requires-clause-spelled
 emitted-requires-clause-spelled c = (c.in_ok-file.ensures.file.tail.0, c.in_ok-file.ensures.file.tail.2)
 
 -- what is emitted is read
-pub unreachable-requires : goal.unreachable-requires
-unreachable-requires c =
+pub report-requires : goal.report-requires
+report-requires c =
     let text : IsEmission c.in_ok-file.file.lowered c.in_ok-file.file.tables.items c.default.result (string_bytes c.in-Ok-emitted.text) = c.in-Ok-emitted.ensures.text in
-    let refused : IsRefused c.as_str-shown.result.now (NoForm c.in-Err-NoForm.field-0-0) = subst (IsRefused c.as_str-shown.result.now) c.in-Err-NoForm.field-0-is c.in-Err-NoForm.ensures.refused in
-    emission_is_not_refused c.in_ok-file.file.lowered c.in_ok-file.file.tables.items c.default.result (string_bytes c.in-Ok-emitted.text) text c.in-Err-NoForm.field-0-0 (subst (λ t. IsRefused t (NoForm c.in-Err-NoForm.field-0-0)) c.as_str-shown.ensures.value refused)
+    λ line refused. emission_is_not_refused c.in_ok-file.file.lowered c.in_ok-file.file.tables.items c.default.result (string_bytes c.in-Ok-emitted.text) text line (subst (λ t. IsRefused t (NoForm line)) c.as_str-2.ensures.value refused)
