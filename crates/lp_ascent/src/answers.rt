@@ -35,6 +35,7 @@ pub struct AnswerTexts {
 }
 
 impl AnswerTexts {
+    /// The texts of the grammar's answer type. The error is want of memory.
     #[tactic(auto, unfolding(crate::specs::AnswerLines::answer_parameters, crate::specs::AnswerLines::answer_clauses))]
     pub fn new(alloc: Global, grammar: &Grammar) -> Result<AnswerTexts, AllocError>
         ensures parameters { IfOk result (λ t. string_bytes t.parameters ≡ answer_parameters_text grammar.now) }

@@ -26,6 +26,7 @@ pub struct Slots<'g> {
 }
 
 impl Slots<'_> {
+    /// How many symbols the state is handed, fixed and optional ones.
     pub fn count(&self) -> usize
         ensures { result ≡ count_of (layout_of self.now) }
     {

@@ -25,6 +25,7 @@ pub struct States<'t> {
 }
 
 impl<'t> States<'t> {
+    /// What the functions of all states share. The error is want of memory.
     pub fn new(alloc: Global, shared: Shared<'t>) -> Result<States<'t>, AllocError>
         ensures grammar { IfOk result (λ s. s.shared.grammar.now ≡ shared.entry.grammar.now) }
         ensures states { IfOk result (λ s. s.shared.states.now ≡ shared.entry.states.now) }

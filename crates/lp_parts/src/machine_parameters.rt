@@ -26,6 +26,7 @@ pub struct MachineParameters {
 }
 
 impl MachineParameters {
+    /// The parameters of the state machine of a grammar. The error is want of memory.
     #[tactic(auto, unfolding(crate::specs::MachineParameters::machine_parameters, crate::specs::MachineParameters::machine_fields, crate::specs::MachineParameters::machine_clauses))]
     pub fn new(alloc: Global, grammar: &Grammar) -> Result<MachineParameters, AllocError>
         ensures type_parameters { IfOk result (λ m. m.type_parameters ≡ machine_parameters grammar.now) }

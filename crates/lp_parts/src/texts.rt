@@ -19,7 +19,6 @@ use lp_repr::repr::{Grammar, Parameter, TypeRepr, WhereClause};
 use lp_repr::{Shown, Text};
 use std::alloc::{AllocError, Global};
 use std::collections::BTreeMap;
-use std::fmt::Display;
 
 /// The types of locations, tokens and errors, and what is made of them.
 #[derive(Debug, Drop)]
@@ -34,6 +33,8 @@ pub struct TypeTexts {
 }
 
 impl TypeTexts {
+    /// The texts of the types that the grammar declares, with `()` and `&'static str` for those that it
+    /// leaves out. The error is want of memory.
     pub fn new(alloc: Global, grammar: &Grammar) -> Result<TypeTexts, AllocError>
         ensures location { IfOk result (λ t. string_bytes t.location ≡ location_text grammar.now) }
         ensures token { IfOk result (λ t. string_bytes t.token ≡ token_text grammar.now) }
@@ -115,6 +116,8 @@ pub struct SymbolTexts<'t> {
 }
 
 impl<'t> SymbolTexts<'t> {
+    /// The texts of the grammar's symbol type, whose locations have the type `location`. The error is want
+    /// of memory.
     #[tactic(auto, unfolding(crate::specs::Texts::symbol_parameters, crate::specs::Texts::symbol_clauses))]
     pub fn new(
         alloc: Global,
@@ -220,6 +223,7 @@ pub struct ParameterTexts {
 }
 
 impl ParameterTexts {
+    /// The texts of the grammar's parameters. The error is want of memory.
     pub fn new(alloc: Global, grammar: &Grammar) -> Result<ParameterTexts, AllocError>
         ensures type_parameters { IfOk result (λ t. string_bytes t.type_parameters ≡ each_with_comma (map parameter_text grammar.now.type_parameters)) }
         ensures generic_names { IfOk result (λ t. string_bytes t.generic_names ≡ generic_names_text grammar.now) }
@@ -252,6 +256,7 @@ pub struct MachineTexts {
 }
 
 impl MachineTexts {
+    /// The texts of the parameters of the state machine. The error is want of memory.
     pub fn new(alloc: Global, machine: &MachineParameters) -> Result<MachineTexts, AllocError>
         ensures parameters { IfOk result (λ t. string_bytes t.parameters ≡ comma_list (map parameter_text machine.now.type_parameters)) }
         ensures clauses { IfOk result (λ t. string_bytes t.clauses ≡ comma_list (map clause_text machine.now.where_clauses)) }
@@ -307,18 +312,6 @@ fn push_after_commas(list: &mut String, texts: &[Text]) -> Result<(), AllocError
         list.push_str(text.as_str())?;
     }
     Ok(())
-}
-
-/// The elements, joined by `, `.
-pub fn joined<T: Display>(alloc: Global, items: &[T]) -> Result<String, AllocError> {
-    let mut text = String::new(alloc);
-    for (i, item) in items.iter().enumerate() {
-        if i > 0 {
-            text.push_str(", ")?;
-        }
-        write!(text, "{item}")?;
-    }
-    Ok(text)
 }
 
 /// Each element followed by `, `.

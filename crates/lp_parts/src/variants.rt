@@ -19,6 +19,7 @@ pub struct Variants<'t> {
 }
 
 impl<'t> Variants<'t> {
+    /// The variants of a grammar's symbols. The error is want of memory.
     #[tactic(auto, unfolding(crate::specs::Variants::variant_types, crate::specs::Variants::terminal_variants, crate::specs::Variants::nonterminal_variants))]
     pub fn new(alloc: Global, grammar: &'t Grammar) -> Result<Variants<'t>, AllocError>
         ensures types { IfOk result (λ v. map deref v.types.items ≡ variant_types grammar.entry.now) }

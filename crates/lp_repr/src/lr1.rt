@@ -29,6 +29,7 @@ pub struct Item {
     pub lookahead: Items<Token>,
 }
 
+/// A state of the LR(1) automaton: its items, and what is done there on each symbol.
 #[derive(Debug, Drop)]
 pub struct Lr1State {
     pub items: Items<Item>,

@@ -49,6 +49,7 @@ pub struct Algorithm {
     pub codegen: LrCodeGeneration,
 }
 
+/// Which back end writes the parsers; `TestAll` is both side by side, for tests of the back ends.
 #[derive(Clone, Copy, Debug, PartialEq, Eq)]
 pub enum LrCodeGeneration {
     TableDriven,
@@ -56,9 +57,12 @@ pub enum LrCodeGeneration {
     TestAll,
 }
 
+/// The name of a nonterminal. Inlined and generated ones have the names that the grammar printed them
+/// with, such as `("," T)*`.
 #[derive(Clone, Debug, PartialEq, Eq, PartialOrd, Ord, Drop)]
 pub struct NonterminalString(pub Text);
 
+/// A terminal as the grammar writes it.
 #[derive(Clone, Debug, PartialEq, Eq, PartialOrd, Ord, Drop)]
 pub enum TerminalString {
     /// A string literal, without its quotes and with its escapes applied.
@@ -68,6 +72,7 @@ pub enum TerminalString {
     Error,
 }
 
+/// What a production is made of.
 #[derive(Clone, Debug, PartialEq, Eq, PartialOrd, Ord, Drop)]
 pub enum Symbol {
     Nonterminal(NonterminalString),
@@ -80,12 +85,15 @@ pub struct TerminalSet {
     pub all: Items<TerminalString>,
 }
 
+/// A nonterminal that the grammar defines: who may call its parser where it is a start, and its
+/// productions in the order of the grammar.
 #[derive(Debug, PartialEq, Eq, Drop)]
 pub struct NonterminalData {
     pub visibility: Visibility,
     pub productions: Items<Production>,
 }
 
+/// `nonterminal = symbols`: a way to derive a nonterminal, and the action that makes its value.
 #[derive(Clone, Debug, PartialEq, Eq, Drop)]
 pub struct Production {
     pub nonterminal: NonterminalString,
@@ -101,6 +109,8 @@ pub struct Parameter {
     pub ty: TypeRepr,
 }
 
+/// The generated lexer: the regular expressions of its tokens, the earlier winning over the later where
+/// both match as much.
 #[derive(Debug, PartialEq, Eq, Drop)]
 pub struct InternToken {
     pub match_entries: Items<MatchEntry>,
@@ -121,6 +131,7 @@ pub struct ActionFnDefn {
     pub kind: ActionFnDefnKind,
 }
 
+/// What an action function does.
 #[derive(Debug, PartialEq, Eq, Drop)]
 pub enum ActionFnDefnKind {
     /// User code over the values of its symbols.
@@ -138,12 +149,15 @@ pub enum ActionFnDefnKind {
     },
 }
 
+/// Which location a lookaround answers: `@L` is the start of the lookahead, `@R` the end of the token
+/// before it.
 #[derive(Clone, Copy, Debug, PartialEq, Eq)]
 pub enum LookaroundActionFn {
     Lookahead,
     Lookbehind,
 }
 
+/// A symbol of an action that inlines others: one of the production itself, or the value of an action.
 #[derive(Debug, PartialEq, Eq, Drop)]
 pub enum InlinedSymbol {
     Original(Symbol),

@@ -1,6 +1,6 @@
 //! Texts and lists that contracts see as their contents.
 
-ghost use Rattle.std.specs.Prelude.{◌≡◌, string_bytes, IfOk, Some};
+ghost use Rattle.std.specs.Prelude.{◌≡◌, [], string_bytes, IfOk, Some};
 
 use crate::joined::Shown;
 use std::alloc::{AllocError, Global};
@@ -28,6 +28,7 @@ impl Text {
         Ok(Text(String::from_str(alloc, text)?))
     }
 
+    /// The text, borrowed.
     pub fn as_str(&self) -> &str
         ensures { result.now ≡ self.now }
     {
@@ -125,10 +126,13 @@ impl<T> Model for Items<T> {
 
 impl<T> Items<T> {
     /// A list of none.
-    pub fn new(alloc: Global) -> Items<T> {
+    pub fn new(alloc: Global) -> Items<T>
+        ensures { result ≡ [] }
+    {
         Items(Vec::new(alloc))
     }
 
+    /// The items in order, borrowed.
     pub fn as_slice(&self) -> &[T]
         ensures { result.now ≡ self.now }
     {

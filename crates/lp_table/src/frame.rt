@@ -10,9 +10,7 @@ use crate::forms::{module_of, parser_of};
 use crate::headers::{add_parameters, header_of, shown_each, type_parameters};
 use crate::pieces::{copied, lent, lent_name, made};
 use crate::shared::Shared;
-use lp_build::{
-    FunctionName, parse_module, parser, standard_uses, token_source, token_use, use_line,
-};
+use lp_build::{FunctionName, standard_uses, token_source, token_use, use_line};
 use lp_repr::Text;
 use lp_repr::repr::Grammar;
 use lp_tree::{Node, Piece};
@@ -81,19 +79,6 @@ fn module_front<'t>(alloc: Global, grammar: &'t Grammar) -> Result<Vec<Node<'t>>
     Ok(front)
 }
 
-/// A module with these items, under the name of its start nonterminal.
-pub fn module<'t>(
-    alloc: Global,
-    shared: &Shared<'t>,
-    rows: Vec<Node<'t>>,
-) -> Result<Node<'t>, AllocError> {
-    let mut below = module_front(alloc, shared.grammar)?;
-    for row in rows {
-        below.push(row)?;
-    }
-    parse_module(alloc, lent_name(shared.start.nonterminal.0.as_str()), below)
-}
-
 /// A module of table-driven code with these items, under the name of its start nonterminal.
 pub fn table_module<'t>(
     alloc: Global,
@@ -105,26 +90,6 @@ pub fn table_module<'t>(
     let front = module_front(alloc, shared.grammar)?;
     let name = lent_name(shared.start.nonterminal.0.as_str());
     module_of(alloc, name, front, rows)
-}
-
-/// The parser, with this body of its `parse` method.
-pub fn parser_with<'t>(
-    alloc: Global,
-    shared: &Shared<'t>,
-    body: Node<'t>,
-) -> Result<Node<'t>, AllocError> {
-    let interned = is_interned(shared.grammar);
-    let head = parse_header(alloc, shared)?;
-    let source = token_source(alloc, interned)?;
-    let visibility = copied(alloc, shared.start.visibility.as_str())?;
-    let name = lent_name(shared.start.public_name);
-    parser(
-        alloc,
-        visibility,
-        name,
-        interned,
-        vec![in alloc; head, source, body]?,
-    )
 }
 
 /// The parser by tables, with this body of its `parse` method.

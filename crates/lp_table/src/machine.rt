@@ -37,6 +37,7 @@ pub struct Machine {
 }
 
 impl Machine {
+    /// The state machine of a grammar. The error is want of memory.
     pub fn new(alloc: Global, grammar: &Grammar) -> Result<Machine, AllocError>
         ensures { IfOk result (IsMachineOf grammar.now) }
     {

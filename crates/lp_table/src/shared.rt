@@ -35,6 +35,8 @@ pub struct StartTexts<'t> {
 }
 
 impl<'t> StartTexts<'t> {
+    /// What the text of the start `nonterminal` says, whose parser is called by `public_name`. The error is
+    /// want of memory.
     pub fn new(
         alloc: Global,
         grammar: &'t Grammar,
@@ -144,6 +146,7 @@ pub struct Shared<'t> {
 }
 
 impl<'t> Shared<'t> {
+    /// What the parts of the module of one start share. The error is want of memory.
     pub fn new(
         alloc: Global,
         grammar: &'t Grammar,

@@ -24,6 +24,7 @@ impl Model for CountSink {
 }
 
 impl CountSink {
+    /// A sink that has taken nothing.
     pub fn new() -> CountSink
         ensures { result ≡ 0 }
     {

@@ -301,6 +301,7 @@ pub trait ParameterDisplay {
     /// A text that it may stand as.
     ghost IsParameterText: { Self → List ℕ → Type 0 };
 
+    /// A text that it stands as. The error is want of memory.
     fn to_parameter_string(&self, alloc: Global) -> Result<String, AllocError>
         ensures { IfOk result (λ text. IsParameterText self.now (string_bytes text)) };
 }

@@ -26,6 +26,8 @@ pub struct MemorySource {
 impl MemorySource {
     ghost use Rattle.lp_write.specs.Memory.{giving, is_listed};
 
+    /// A source of `bytes`, of which a read gives at most `most`. The reads whose numbers, counted from 0,
+    /// stand in `failing` fail.
     pub fn new(bytes: Vec<u8>, most: usize, failing: Vec<u64>) -> MemorySource
         requires { 0 < most }
         ensures { giving result ≡ record { left = bytes.items; most = most; failing = failing.items; reads = 0; faults = 0 } }

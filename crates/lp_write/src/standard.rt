@@ -18,6 +18,7 @@ pub struct StdinSource<R> {
 }
 
 impl<R: Read> StdinSource<R> {
+    /// A source over a reader, none of whose reads has failed.
     pub fn new(reader: R) -> StdinSource<R>
         ensures reader { reader_of result ≡ reader }
         ensures none { failed_reads result ≡ 0 }
@@ -63,6 +64,7 @@ pub struct StdoutSink<W> {
 }
 
 impl<W: Write> StdoutSink<W> {
+    /// A sink over a writer, none of whose writes has failed.
     pub fn new(writer: W) -> StdoutSink<W>
         ensures writer { writer_below result ≡ writer }
         ensures none { failed_writes result ≡ 0 }

@@ -59,6 +59,7 @@ fn write_after_each<W: fmt::Write, S: Display>(
 pub trait AsStr {
     ghost text: { Self → List ℕ };
 
+    /// The text, borrowed.
     fn as_str(&self) -> &str
         ensures { result.now ≡ text self.now };
 }
