@@ -4,6 +4,7 @@ use crate::class::Class;
 use crate::template::Slot::{Hole, Nothing, Prefix};
 use crate::template::{Kind, Line, NO_PARTS, Step};
 
+/// The start of a parse by recursive ascent: the first token, and the call of the first state.
 pub const START: &[Line] = &[
     (
         Step::Line(0),
@@ -68,8 +69,10 @@ pub const START: &[Line] = &[
     (Step::Line(0), &[("}", Nothing)]),
 ];
 
+/// The holes of `START`: state type, parameter names, phantom expression, start nonterminal.
 pub const START_HOLES: &[Kind] = &[Kind::Name, Kind::Parameters, Kind::Text, Kind::Escaped];
 
+/// The enum that state functions return, with a variant per nonterminal.
 pub const RETURN_ENUM: &[Line] = &[
     (Step::Line(0), &[("#[allow(dead_code)]", Nothing)]),
     (
@@ -82,15 +85,19 @@ pub const RETURN_ENUM: &[Line] = &[
     (Step::Line(0), &[("}", Nothing)]),
 ];
 
+/// The hole of `RETURN_ENUM`: the type parameters.
 pub const RETURN_ENUM_HOLES: &[Kind] = &[Kind::Text];
 
+/// The variant of a nonterminal in the enum that state functions return.
 pub const RETURN_ROW: &[Line] = &[(
     Step::Line(0),
     &[("", Hole(0)), ("((", Hole(1)), (")),", Nothing)],
 )];
 
+/// The holes of `RETURN_ROW`: the nonterminal, its type between two location types.
 pub const RETURN_ROW_HOLES: &[Kind] = &[Kind::Escaped, Kind::Text];
 
+/// The function of a state: its shifts, reductions, error arm and gotos.
 pub const STATE_FN: &[Line] = &[
     (Step::Empty, NO_PARTS),
     (Step::Note, NO_PARTS),
@@ -120,8 +127,10 @@ pub const STATE_FN: &[Line] = &[
     (Step::Line(0), &[("}", Nothing)]),
 ];
 
+/// The holes of `STATE_FN`: the types of a token and its locations, the enum's parameters.
 pub const STATE_FN_HOLES: &[Kind] = &[Kind::Text, Kind::Text];
 
+/// Takes the next token as the lookahead, or returns the error of the token source.
 pub const NEXT_TOKEN: &[Line] = &[
     (
         Step::Line(0),
@@ -140,6 +149,7 @@ pub const NEXT_TOKEN: &[Line] = &[
     (Step::Line(0), &[("};", Nothing)]),
 ];
 
+/// Makes a fixed slot optional, for a callee to take it.
 pub const SLOT_LINE: &[Line] = &[(
     Step::Line(0),
     &[
@@ -151,8 +161,10 @@ pub const SLOT_LINE: &[Line] = &[(
     ],
 )];
 
+/// The hole of `SLOT_LINE`: the slot.
 pub const SLOT_LINE_HOLES: &[Kind] = &[Kind::Number];
 
+/// The shift of a terminal with captures.
 pub const SHIFT_ARM: &[Line] = &[
     (
         Step::Line(0),
@@ -178,8 +190,10 @@ pub const SHIFT_ARM: &[Line] = &[
     (Step::Line(0), &[("}", Nothing)]),
 ];
 
+/// The holes of `SHIFT_ARM`: the pattern, the symbol's number, the names of the captures.
 pub const SHIFT_ARM_HOLES: &[Kind] = &[Kind::Filled, Kind::Number, Kind::Names];
 
+/// The shift of a terminal without captures: the whole token is the value.
 pub const SHIFT_WHOLE: &[Line] = &[
     (
         Step::Line(0),
@@ -206,8 +220,10 @@ pub const SHIFT_WHOLE: &[Line] = &[
     (Step::Line(0), &[("}", Nothing)]),
 ];
 
+/// The holes of `SHIFT_WHOLE`: the pattern, the symbol's number.
 pub const SHIFT_WHOLE_HOLES: &[Kind] = &[Kind::Pattern, Kind::Number];
 
+/// The arm of a lookahead without an action: returns the error, with the expected terminals.
 pub const ERROR_ARM: &[Line] = &[
     (Step::Line(0), &[("_ => {", Nothing)]),
     (
@@ -266,6 +282,7 @@ pub const ERROR_ARM: &[Line] = &[
     (Step::Line(0), &[("}", Nothing)]),
 ];
 
+/// The location of an error at the end of input: the end of a fixed slot.
 pub const LOCATION_FIXED: &[Line] = &[(
     Step::Line(0),
     &[
@@ -276,8 +293,10 @@ pub const LOCATION_FIXED: &[Line] = &[(
     ],
 )];
 
+/// The hole of `LOCATION_FIXED`: the slot.
 pub const LOCATION_FIXED_HOLES: &[Kind] = &[Kind::Number];
 
+/// The location of an error at the end of input: the default location.
 pub const LOCATION_DEFAULT: &[Line] = &[(
     Step::Line(0),
     &[
@@ -286,6 +305,7 @@ pub const LOCATION_DEFAULT: &[Line] = &[(
     ],
 )];
 
+/// The location of an error at the end of input: the end of the topmost full slot, or the default.
 pub const LOCATION_CHAIN: &[Line] = &[
     (Step::Line(0), &[("let ", Prefix), ("location = ", Nothing)]),
     (Step::Some(Class::LocationRow), NO_PARTS),
@@ -294,6 +314,7 @@ pub const LOCATION_CHAIN: &[Line] = &[
     (Step::Line(0), &[(";", Nothing)]),
 ];
 
+/// The end of an optional slot, or what follows where the slot was taken.
 pub const LOCATION_ROW: &[Line] = &[(
     Step::Line(0),
     &[
@@ -306,8 +327,10 @@ pub const LOCATION_ROW: &[Line] = &[(
     ],
 )];
 
+/// The hole of `LOCATION_ROW`: the slot.
 pub const LOCATION_ROW_HOLES: &[Kind] = &[Kind::Number];
 
+/// The call of another state's function, after a shift or a goto.
 pub const TRANSITION: &[Line] = &[
     (Step::Many(Class::TakeLine), NO_PARTS),
     (
@@ -332,13 +355,16 @@ pub const TRANSITION: &[Line] = &[
     (Step::Optional(Class::ReturnLine), NO_PARTS),
 ];
 
+/// The holes of `TRANSITION`: state, parameter names, handed symbols, phantom expression.
 pub const TRANSITION_HOLES: &[Kind] = &[Kind::Number, Kind::Parameters, Kind::Symbols, Kind::Text];
 
+/// The end of a state function without gotos: returns the result.
 pub const GOTO_RETURN: &[Line] = &[(
     Step::Line(0),
     &[("return Ok(", Prefix), ("result);", Nothing)],
 )];
 
+/// The gotos of a state function, on each nonterminal that its result holds.
 pub const GOTO_LOOP: &[Line] = &[
     (Step::Line(0), &[("#[allow(clippy::never_loop)]", Nothing)]),
     (Step::Line(0), &[("loop {", Nothing)]),
@@ -359,6 +385,7 @@ pub const GOTO_LOOP: &[Line] = &[
     (Step::Line(0), &[("}", Nothing)]),
 ];
 
+/// Returns the result if the top slot was taken.
 pub const EMPTY_CHECK: &[Line] = &[
     (
         Step::Line(0),
@@ -371,8 +398,10 @@ pub const EMPTY_CHECK: &[Line] = &[
     (Step::Line(0), &[("}", Nothing)]),
 ];
 
+/// The hole of `EMPTY_CHECK`: the slot.
 pub const EMPTY_CHECK_HOLES: &[Kind] = &[Kind::Number];
 
+/// The goto of a nonterminal.
 pub const GOTO_ARM: &[Line] = &[
     (
         Step::Line(0),
@@ -388,8 +417,10 @@ pub const GOTO_ARM: &[Line] = &[
     (Step::Line(0), &[("}", Nothing)]),
 ];
 
+/// The holes of `GOTO_ARM`: the nonterminal, the symbol's number.
 pub const GOTO_ARM_HOLES: &[Kind] = &[Kind::Escaped, Kind::Number];
 
+/// The arm of the nonterminals without a goto: returns the nonterminal.
 pub const GOTO_OTHER: &[Line] = &[
     (Step::Line(0), &[("_ => {", Nothing)]),
     (
@@ -403,6 +434,7 @@ pub const GOTO_OTHER: &[Line] = &[
     (Step::Line(0), &[("}", Nothing)]),
 ];
 
+/// The function from a production to how many states it pops and which nonterminal it produces.
 pub const ASCENT_SIMULATE: &[Line] = &[
     (
         Step::Line(0),
@@ -420,12 +452,16 @@ pub const ASCENT_SIMULATE: &[Line] = &[
     (Step::Line(0), &[("}", Nothing)]),
 ];
 
+/// The hole of `ASCENT_SIMULATE`: the state type.
 pub const ASCENT_SIMULATE_HOLES: &[Kind] = &[Kind::Name];
 
+/// The arm of the start production, which accepts.
 pub const ASCENT_ACCEPT: &[Line] = &[(Step::Line(0), &[("", Hole(0)), (" => None,", Nothing)])];
 
+/// The hole of `ASCENT_ACCEPT`: the production.
 pub const ASCENT_ACCEPT_HOLES: &[Kind] = &[Kind::Number];
 
+/// The arm of another production.
 pub const ASCENT_ARM: &[Line] = &[(
     Step::Line(0),
     &[
@@ -436,8 +472,10 @@ pub const ASCENT_ARM: &[Line] = &[(
     ],
 )];
 
+/// The holes of `ASCENT_ARM`: the production, how many states it pops, the nonterminal.
 pub const ASCENT_ARM_HOLES: &[Kind] = &[Kind::Number, Kind::Number, Kind::Number];
 
+/// The function that tells whether a stack of states accepts a terminal.
 pub const ASCENT_ACCEPTS: &[Line] = &[
     (
         Step::Line(0),
@@ -546,8 +584,10 @@ pub const ASCENT_ACCEPTS: &[Line] = &[
     (Step::Line(0), &[("}", Nothing)]),
 ];
 
+/// The hole of `ASCENT_ACCEPTS`: the state type.
 pub const ASCENT_ACCEPTS_HOLES: &[Kind] = &[Kind::Name];
 
+/// The function that lists the terminals that a stack of states accepts.
 pub const ASCENT_EXPECTED: &[Line] = &[
     (
         Step::Line(0),
@@ -590,4 +630,5 @@ pub const ASCENT_EXPECTED: &[Line] = &[
     (Step::Line(0), &[("}", Nothing)]),
 ];
 
+/// The hole of `ASCENT_EXPECTED`: the state type.
 pub const ASCENT_EXPECTED_HOLES: &[Kind] = &[Kind::Name];

@@ -4,6 +4,7 @@ use crate::class::Class;
 use crate::template::Slot::{Hole, Nothing, Prefix};
 use crate::template::{Kind, Line, NO_PARTS, Step};
 
+/// A reduction on several lookaheads.
 pub const REDUCE_MANY: &[Line] = &[
     (
         Step::Line(0),
@@ -14,8 +15,10 @@ pub const REDUCE_MANY: &[Line] = &[
     (Step::One(Class::ReduceLines), NO_PARTS),
 ];
 
+/// The hole of `REDUCE_MANY`: the pattern of the first token.
 pub const REDUCE_MANY_HOLES: &[Kind] = &[Kind::Pattern];
 
+/// A reduction on one token.
 pub const REDUCE_TOKEN: &[Line] = &[
     (
         Step::Line(0),
@@ -24,29 +27,37 @@ pub const REDUCE_TOKEN: &[Line] = &[
     (Step::One(Class::ReduceLines), NO_PARTS),
 ];
 
+/// The hole of `REDUCE_TOKEN`: the pattern.
 pub const REDUCE_TOKEN_HOLES: &[Kind] = &[Kind::Pattern];
 
+/// A reduction at the end of input alone.
 pub const REDUCE_END: &[Line] = &[
     (Step::Line(0), &[("None => {", Nothing)]),
     (Step::One(Class::ReduceLines), NO_PARTS),
 ];
 
+/// A token between the first lookahead and the last one.
 pub const TOKEN_ROW: &[Line] = &[(
     Step::Line(0),
     &[("Some((_, ", Hole(0)), (", _)) |", Nothing)],
 )];
 
+/// The hole of `TOKEN_ROW`: the pattern.
 pub const TOKEN_ROW_HOLES: &[Kind] = &[Kind::Pattern];
 
+/// A token as the last of several lookaheads.
 pub const LAST_TOKEN: &[Line] = &[(
     Step::Line(0),
     &[("Some((_, ", Hole(0)), (", _)) => {", Nothing)],
 )];
 
+/// The hole of `LAST_TOKEN`: the pattern.
 pub const LAST_TOKEN_HOLES: &[Kind] = &[Kind::Pattern];
 
+/// The end of input as the last of several lookaheads.
 pub const LAST_END: &[Line] = &[(Step::Line(0), &[("None => {", Nothing)])];
 
+/// What a reduction does: the span, the call of the action, and the result.
 pub const REDUCE_LINES: &[Line] = &[
     (Step::Many(Class::TakeLine), NO_PARTS),
     (Step::One(Class::AscentSpan), NO_PARTS),
@@ -77,8 +88,10 @@ pub const REDUCE_LINES: &[Line] = &[
     (Step::Line(0), &[("}", Nothing)]),
 ];
 
+/// The hole of `REDUCE_LINES`: the nonterminal.
 pub const REDUCE_LINES_HOLES: &[Kind] = &[Kind::Escaped];
 
+/// Takes the symbol out of an optional slot.
 pub const TAKE_LINE: &[Line] = &[(
     Step::Line(0),
     &[
@@ -90,13 +103,16 @@ pub const TAKE_LINE: &[Line] = &[(
     ],
 )];
 
+/// The hole of `TAKE_LINE`: the slot.
 pub const TAKE_LINE_HOLES: &[Kind] = &[Kind::Number];
 
+/// Returns the result.
 pub const RETURN_LINE: &[Line] = &[(
     Step::Line(0),
     &[("return Ok(", Prefix), ("result);", Nothing)],
 )];
 
+/// The span of popped symbols, from the start of the first to the end of the last.
 pub const ASCENT_POPPED: &[Line] = &[
     (
         Step::Line(0),
@@ -118,8 +134,10 @@ pub const ASCENT_POPPED: &[Line] = &[
     ),
 ];
 
+/// The holes of `ASCENT_POPPED`: the first slot, the last slot.
 pub const ASCENT_POPPED_HOLES: &[Kind] = &[Kind::Number, Kind::Number];
 
+/// The span of no symbols: the start of the lookahead, else the end of a fixed slot.
 pub const ASCENT_FIXED: &[Line] = &[
     (
         Step::Line(0),
@@ -137,8 +155,10 @@ pub const ASCENT_FIXED: &[Line] = &[
     ),
 ];
 
+/// The hole of `ASCENT_FIXED`: the slot.
 pub const ASCENT_FIXED_HOLES: &[Kind] = &[Kind::Number];
 
+/// The span of no symbols: the start of the lookahead, else the end of an optional slot.
 pub const ASCENT_OPTIONAL: &[Line] = &[
     (
         Step::Line(0),
@@ -159,8 +179,10 @@ pub const ASCENT_OPTIONAL: &[Line] = &[
     ),
 ];
 
+/// The hole of `ASCENT_OPTIONAL`: the slot.
 pub const ASCENT_OPTIONAL_HOLES: &[Kind] = &[Kind::Number];
 
+/// The span of no symbols: the start of the lookahead, else the default location.
 pub const ASCENT_BOTTOM: &[Line] = &[
     (
         Step::Line(0),
@@ -180,8 +202,10 @@ pub const ASCENT_BOTTOM: &[Line] = &[
     ),
 ];
 
+/// The hole of `ASCENT_BOTTOM`: the location type.
 pub const ASCENT_BOTTOM_HOLES: &[Kind] = &[Kind::Text];
 
+/// The call of an infallible action.
 pub const ASCENT_CALL: &[Line] = &[(
     Step::Line(0),
     &[
@@ -194,8 +218,10 @@ pub const ASCENT_CALL: &[Line] = &[(
     ],
 )];
 
+/// The holes of `ASCENT_CALL`: the action, type arguments, arguments.
 pub const ASCENT_CALL_HOLES: &[Kind] = &[Kind::Number, Kind::Generics, Kind::Arguments];
 
+/// The call of a fallible action: an error is returned.
 pub const ASCENT_CALL_FALLIBLE: &[Line] = &[(
     Step::Line(0),
     &[
@@ -208,4 +234,5 @@ pub const ASCENT_CALL_FALLIBLE: &[Line] = &[(
     ],
 )];
 
+/// The holes of `ASCENT_CALL_FALLIBLE`: the action, type arguments, arguments.
 pub const ASCENT_CALL_FALLIBLE_HOLES: &[Kind] = &[Kind::Number, Kind::Generics, Kind::Arguments];

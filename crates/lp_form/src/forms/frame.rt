@@ -4,6 +4,7 @@ use crate::class::Class;
 use crate::template::Slot::{Hole, Nothing, Prefix};
 use crate::template::{Kind, Line, NO_PARTS, Step};
 
+/// The whole text of an emitted parser.
 pub const PROGRAM: &[Line] = &[
     (Step::Many(Class::Attribute), NO_PARTS),
     (Step::Many(Class::Use), NO_PARTS),
@@ -19,12 +20,16 @@ pub const PROGRAM: &[Line] = &[
     (Step::One(Class::ToTriple), NO_PARTS),
 ];
 
+/// An inner attribute of the whole text.
 pub const ATTRIBUTE: &[Line] = &[(Step::Line(0), &[("", Hole(0))])];
 
+/// The hole of `ATTRIBUTE`: the attribute.
 pub const ATTRIBUTE_HOLES: &[Kind] = &[Kind::Attribute];
 
+/// A `use` of the grammar.
 pub const USE_LINE: &[Line] = &[(Step::Use, NO_PARTS)];
 
+/// The uses that the whole text and each module have: of the runtime crate and of `alloc`.
 pub const STANDARD_USES: &[Line] = &[
     (
         Step::Line(0),
@@ -53,6 +58,7 @@ pub const STANDARD_USES: &[Line] = &[
     (Step::Line(0), &[("extern crate alloc;", Nothing)]),
 ];
 
+/// The module of a start nonterminal.
 pub const PARSE_MODULE: &[Line] = &[
     (Step::Empty, NO_PARTS),
     (Step::Line(0), &[("#[rustfmt::skip]", Nothing)]),
@@ -75,8 +81,10 @@ pub const PARSE_MODULE: &[Line] = &[
     (Step::Line(0), &[("}", Nothing)]),
 ];
 
+/// The hole of `PARSE_MODULE`: the start nonterminal.
 pub const PARSE_MODULE_HOLES: &[Kind] = &[Kind::Name];
 
+/// The use of the token type of the generated lexer.
 pub const TOKEN_USE_INTERNED: &[Line] = &[(
     Step::Line(0),
     &[
@@ -85,11 +93,13 @@ pub const TOKEN_USE_INTERNED: &[Line] = &[(
     ],
 )];
 
+/// The use of the trait of the tokens that are handed in.
 pub const TOKEN_USE_PLAIN: &[Line] = &[(
     Step::Line(0),
     &[("use super::", Prefix), ("ToTriple;", Nothing)],
 )];
 
+/// The re-export of a parser under its public name.
 pub const REEXPORT: &[Line] = &[
     (Step::Line(0), &[("#[allow(unused_imports)]", Nothing)]),
     (
@@ -104,8 +114,10 @@ pub const REEXPORT: &[Line] = &[
     ),
 ];
 
+/// The holes of `REEXPORT`: the visibility, the start nonterminal, the public name.
 pub const REEXPORT_HOLES: &[Kind] = &[Kind::Visibility, Kind::Name, Kind::Name];
 
+/// The items of a module of table-driven code.
 pub const TABLE_ITEMS: &[Line] = &[
     (Step::One(Class::SymbolEnum), NO_PARTS),
     (Step::One(Class::ActionTable), NO_PARTS),
@@ -128,6 +140,7 @@ pub const TABLE_ITEMS: &[Line] = &[
     (Step::Many(Class::ReduceFn), NO_PARTS),
 ];
 
+/// The items of a module of recursive ascent.
 pub const ASCENT_ITEMS: &[Line] = &[
     (Step::One(Class::AscentParser), NO_PARTS),
     (Step::Empty, NO_PARTS),
@@ -142,6 +155,7 @@ pub const ASCENT_ITEMS: &[Line] = &[
     (Step::One(Class::AscentExpected), NO_PARTS),
 ];
 
+/// The module of the generated lexer, with the regular expressions of its tokens.
 pub const TOKEN_MODULE: &[Line] = &[
     (Step::Line(0), &[("#[rustfmt::skip]", Nothing)]),
     (
@@ -184,16 +198,22 @@ pub const TOKEN_MODULE: &[Line] = &[
     ),
 ];
 
+/// A regular expression whose matches are skipped.
 pub const INTERN_SKIP: &[Line] = &[(Step::Line(0), &[("(", Hole(0)), (", true),", Nothing)])];
 
+/// The hole of `INTERN_SKIP`: the regular expression as a string literal.
 pub const INTERN_SKIP_HOLES: &[Kind] = &[Kind::Literal];
 
+/// A regular expression whose matches are tokens.
 pub const INTERN_KEEP: &[Line] = &[(Step::Line(0), &[("(", Hole(0)), (", false),", Nothing)])];
 
+/// The hole of `INTERN_KEEP`: the regular expression as a string literal.
 pub const INTERN_KEEP_HOLES: &[Kind] = &[Kind::Literal];
 
+/// White space, which is skipped where no regular expression of the grammar is.
 pub const WHITESPACE_ROW: &[Line] = &[(Step::Line(0), &[("(r\"\\s+\", true),", Nothing)])];
 
+/// The trait that makes triples of tokens with locations, with where clauses.
 pub const TO_TRIPLE_LOCATED_WHERE: &[Line] = &[
     (
         Step::Line(0),
@@ -274,6 +294,8 @@ pub const TO_TRIPLE_LOCATED_WHERE: &[Line] = &[
     (Step::Line(0), &[("}", Nothing)]),
 ];
 
+/// The holes of `TO_TRIPLE_LOCATED_WHERE`: visibility, type parameters, where clauses, types of
+/// the returned triple, types of the returned error, types of a located token, error type.
 pub const TO_TRIPLE_LOCATED_WHERE_HOLES: &[Kind] = &[
     Kind::Visibility,
     Kind::Text,
@@ -284,6 +306,7 @@ pub const TO_TRIPLE_LOCATED_WHERE_HOLES: &[Kind] = &[
     Kind::Text,
 ];
 
+/// The trait that makes triples of tokens with locations.
 pub const TO_TRIPLE_LOCATED: &[Line] = &[
     (
         Step::Line(0),
@@ -361,6 +384,8 @@ pub const TO_TRIPLE_LOCATED: &[Line] = &[
     (Step::Line(0), &[("}", Nothing)]),
 ];
 
+/// The holes of `TO_TRIPLE_LOCATED`: visibility, type parameters, types of the returned triple,
+/// types of the returned error, types of a located token, error type.
 pub const TO_TRIPLE_LOCATED_HOLES: &[Kind] = &[
     Kind::Visibility,
     Kind::Text,
@@ -370,6 +395,7 @@ pub const TO_TRIPLE_LOCATED_HOLES: &[Kind] = &[
     Kind::Text,
 ];
 
+/// The trait that makes triples of tokens without locations, with where clauses.
 pub const TO_TRIPLE_PLAIN_WHERE: &[Line] = &[
     (
         Step::Line(0),
@@ -452,6 +478,8 @@ pub const TO_TRIPLE_PLAIN_WHERE: &[Line] = &[
     (Step::Line(0), &[("}", Nothing)]),
 ];
 
+/// The holes of `TO_TRIPLE_PLAIN_WHERE`: visibility, type parameters, where clauses, types of
+/// the returned triple, types of the returned error, token type, error type.
 pub const TO_TRIPLE_PLAIN_WHERE_HOLES: &[Kind] = &[
     Kind::Visibility,
     Kind::Text,
@@ -462,6 +490,7 @@ pub const TO_TRIPLE_PLAIN_WHERE_HOLES: &[Kind] = &[
     Kind::Text,
 ];
 
+/// The trait that makes triples of tokens without locations.
 pub const TO_TRIPLE_PLAIN: &[Line] = &[
     (
         Step::Line(0),
@@ -541,6 +570,8 @@ pub const TO_TRIPLE_PLAIN: &[Line] = &[
     (Step::Line(0), &[("}", Nothing)]),
 ];
 
+/// The holes of `TO_TRIPLE_PLAIN`: visibility, type parameters, types of the returned triple,
+/// types of the returned error, token type, error type.
 pub const TO_TRIPLE_PLAIN_HOLES: &[Kind] = &[
     Kind::Visibility,
     Kind::Text,

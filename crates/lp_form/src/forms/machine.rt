@@ -4,6 +4,7 @@ use crate::class::Class;
 use crate::template::Slot::{Hole, Nothing, Prefix};
 use crate::template::{Kind, Line, NO_PARTS, Step};
 
+/// The struct that the driver asks: the parameters of the grammar, and a phantom field.
 pub const MACHINE_STRUCT: &[Line] = &[
     (
         Step::Line(0),
@@ -23,15 +24,19 @@ pub const MACHINE_STRUCT: &[Line] = &[
     (Step::Line(0), &[("}", Nothing)]),
 ];
 
+/// The holes of `MACHINE_STRUCT`: the type parameters, where clauses, phantom type.
 pub const MACHINE_STRUCT_HOLES: &[Kind] = &[Kind::Text, Kind::Text, Kind::Text];
 
+/// A field of the struct: a parameter of the grammar.
 pub const FIELD_ROW: &[Line] = &[(
     Step::Line(0),
     &[("", Hole(0)), (": ", Hole(1)), (",", Nothing)],
 )];
 
+/// The holes of `FIELD_ROW`: the name, the type.
 pub const FIELD_ROW_HOLES: &[Kind] = &[Kind::PlainName, Kind::Text];
 
+/// The struct's implementation of the driver's trait `ParserDefinition`.
 pub const MACHINE_IMPL: &[Line] = &[
     (
         Step::Line(0),
@@ -276,6 +281,8 @@ pub const MACHINE_IMPL: &[Line] = &[
     (Step::Line(0), &[("}", Nothing)]),
 ];
 
+/// The holes of `MACHINE_IMPL`: type parameters, where clauses, location, error and token type,
+/// the symbol enum's type parameters, success type, state type, phantom expression, last terminal.
 pub const MACHINE_IMPL_HOLES: &[Kind] = &[
     Kind::Text,
     Kind::Text,
@@ -289,6 +296,7 @@ pub const MACHINE_IMPL_HOLES: &[Kind] = &[
     Kind::Last,
 ];
 
+/// The methods on error recovery, where the grammar uses it.
 pub const RECOVERY_ON: &[Line] = &[
     (Step::Line(0), &[("#[inline]", Nothing)]),
     (
@@ -316,8 +324,10 @@ pub const RECOVERY_ON: &[Line] = &[
     (Step::Line(0), &[("}", Nothing)]),
 ];
 
+/// The hole of `RECOVERY_ON`: the variant of the error terminal.
 pub const RECOVERY_ON_HOLES: &[Kind] = &[Kind::Name];
 
+/// The methods on error recovery, where the grammar doesn't use it.
 pub const RECOVERY_OFF: &[Line] = &[
     (Step::Line(0), &[("#[inline]", Nothing)]),
     (
@@ -348,10 +358,13 @@ pub const RECOVERY_OFF: &[Line] = &[
     (Step::Line(0), &[("}", Nothing)]),
 ];
 
+/// A parameter of the grammar that the struct hands on to `reduce`.
 pub const SELF_ROW: &[Line] = &[(Step::Line(0), &[("self.", Hole(0)), (",", Nothing)])];
 
+/// The hole of `SELF_ROW`: the parameter.
 pub const SELF_ROW_HOLES: &[Kind] = &[Kind::PlainName];
 
+/// The function from a production to how many states it pops and which nonterminal it produces.
 pub const SIMULATE_REDUCE: &[Line] = &[
     (Step::One(Class::HeaderSimulateReduce), NO_PARTS),
     (Step::Line(0), &[("{", Nothing)]),
@@ -371,6 +384,7 @@ pub const SIMULATE_REDUCE: &[Line] = &[
     (Step::Line(0), &[("}", Nothing)]),
 ];
 
+/// The arm of the start production, which accepts.
 pub const SIMULATE_ACCEPT: &[Line] = &[
     (Step::Note, NO_PARTS),
     (
@@ -383,8 +397,10 @@ pub const SIMULATE_ACCEPT: &[Line] = &[
     ),
 ];
 
+/// The hole of `SIMULATE_ACCEPT`: the production.
 pub const SIMULATE_ACCEPT_HOLES: &[Kind] = &[Kind::Number];
 
+/// The arm of another production.
 pub const SIMULATE_ARM: &[Line] = &[
     (Step::Note, NO_PARTS),
     (Step::Line(0), &[("", Hole(0)), (" => {", Nothing)]),
@@ -407,8 +423,10 @@ pub const SIMULATE_ARM: &[Line] = &[
     (Step::Line(0), &[("}", Nothing)]),
 ];
 
+/// The holes of `SIMULATE_ARM`: the production, how many states it pops, the nonterminal.
 pub const SIMULATE_ARM_HOLES: &[Kind] = &[Kind::Number, Kind::Number, Kind::Number];
 
+/// The call of the driver, with the struct and the tokens.
 pub const DRIVE: &[Line] = &[
     (
         Step::Line(0),
@@ -425,12 +443,16 @@ pub const DRIVE: &[Line] = &[
     (Step::Line(0), &[(")", Nothing)]),
 ];
 
+/// The hole of `DRIVE`: the phantom expression.
 pub const DRIVE_HOLES: &[Kind] = &[Kind::Text];
 
+/// A parameter of the grammar as a field of the struct.
 pub const DRIVE_ROW: &[Line] = &[(Step::Line(0), &[("", Hole(0)), (",", Nothing)])];
 
+/// The hole of `DRIVE_ROW`: the parameter.
 pub const DRIVE_ROW_HOLES: &[Kind] = &[Kind::PlainName];
 
+/// The function that tells whether a stack of states accepts a terminal or the end of input.
 pub const ACCEPTS: &[Line] = &[
     (Step::One(Class::HeaderAccepts), NO_PARTS),
     (Step::Line(0), &[("{", Nothing)]),
@@ -587,4 +609,5 @@ pub const ACCEPTS: &[Line] = &[
     (Step::Line(0), &[("}", Nothing)]),
 ];
 
+/// The hole of `ACCEPTS`: the phantom expression.
 pub const ACCEPTS_HOLES: &[Kind] = &[Kind::Text];

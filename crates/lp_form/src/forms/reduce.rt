@@ -4,6 +4,7 @@ use crate::class::Class;
 use crate::template::Slot::{Hole, Nothing, Prefix};
 use crate::template::{Kind, Line, NO_PARTS, Step};
 
+/// The function that reduces by a production, and then goes to the next state.
 pub const REDUCE: &[Line] = &[
     (Step::One(Class::HeaderReduce), NO_PARTS),
     (Step::Line(0), &[("{", Nothing)]),
@@ -72,6 +73,7 @@ pub const REDUCE: &[Line] = &[
     (Step::Line(0), &[("}", Nothing)]),
 ];
 
+/// The arm of a production that is reduced by a function of its own.
 pub const REDUCE_CALL_ARM: &[Line] = &[
     (Step::Line(0), &[("", Hole(0)), (" => {", Nothing)]),
     (
@@ -89,16 +91,20 @@ pub const REDUCE_CALL_ARM: &[Line] = &[
     (Step::Line(0), &[("}", Nothing)]),
 ];
 
+/// The holes of `REDUCE_CALL_ARM`: production, parameter names, phantom expression.
 pub const REDUCE_CALL_ARM_HOLES: &[Kind] = &[Kind::Number, Kind::Parameters, Kind::Text];
 
+/// The arm of a production that is reduced in place.
 pub const REDUCE_BODY_ARM: &[Line] = &[
     (Step::Line(0), &[("", Hole(0)), (" => {", Nothing)]),
     (Step::One(Class::ReduceBody), NO_PARTS),
     (Step::Line(0), &[("}", Nothing)]),
 ];
 
+/// The hole of `REDUCE_BODY_ARM`: the production.
 pub const REDUCE_BODY_ARM_HOLES: &[Kind] = &[Kind::Number];
 
+/// The reduction of one production: the popped symbols, the span, the action, the outcome.
 pub const REDUCE_BODY: &[Line] = &[
     (Step::NoteAlways, NO_PARTS),
     (Step::Optional(Class::AssertLine), NO_PARTS),
@@ -108,6 +114,7 @@ pub const REDUCE_BODY: &[Line] = &[
     (Step::One(Class::OutcomeLines), NO_PARTS),
 ];
 
+/// Asserts that the stack has at least the symbols of the production.
 pub const ASSERT_LINE: &[Line] = &[(
     Step::Line(0),
     &[
@@ -117,8 +124,10 @@ pub const ASSERT_LINE: &[Line] = &[(
     ],
 )];
 
+/// The hole of `ASSERT_LINE`: the number of symbols.
 pub const ASSERT_LINE_HOLES: &[Kind] = &[Kind::Number];
 
+/// Pops a symbol.
 pub const POP_LINE: &[Line] = &[(
     Step::Line(0),
     &[
@@ -131,8 +140,10 @@ pub const POP_LINE: &[Line] = &[(
     ],
 )];
 
+/// The holes of `POP_LINE`: the symbol's number, its variant.
 pub const POP_LINE_HOLES: &[Kind] = &[Kind::Number, Kind::Name];
 
+/// The span of popped symbols, from the start of the first to the end of the last.
 pub const SPAN_POPPED: &[Line] = &[
     (
         Step::Line(0),
@@ -154,8 +165,10 @@ pub const SPAN_POPPED: &[Line] = &[
     ),
 ];
 
+/// The holes of `SPAN_POPPED`: the first symbol's number, the last symbol's number.
 pub const SPAN_POPPED_HOLES: &[Kind] = &[Kind::Number, Kind::Number];
 
+/// The span of no symbols: the start of the lookahead, the end of the top symbol, or the default.
 pub const SPAN_EMPTY: &[Line] = &[
     (
         Step::Line(0),
@@ -172,6 +185,7 @@ pub const SPAN_EMPTY: &[Line] = &[
     ),
 ];
 
+/// The call of an infallible action.
 pub const CALL_PLAIN: &[Line] = &[(
     Step::Line(0),
     &[
@@ -184,8 +198,10 @@ pub const CALL_PLAIN: &[Line] = &[(
     ],
 )];
 
+/// The holes of `CALL_PLAIN`: the action, type arguments, arguments.
 pub const CALL_PLAIN_HOLES: &[Kind] = &[Kind::Number, Kind::Generics, Kind::Arguments];
 
+/// The call of a fallible action: an error is returned.
 pub const CALL_FALLIBLE: &[Line] = &[
     (
         Step::Line(0),
@@ -206,13 +222,16 @@ pub const CALL_FALLIBLE: &[Line] = &[
     (Step::Line(0), &[("};", Nothing)]),
 ];
 
+/// The holes of `CALL_FALLIBLE`: the action, type arguments, arguments.
 pub const CALL_FALLIBLE_HOLES: &[Kind] = &[Kind::Number, Kind::Generics, Kind::Arguments];
 
+/// The outcome of the start production: returns the value of the parse.
 pub const OUTCOME_START: &[Line] = &[(
     Step::Line(0),
     &[("return Some(Ok(", Prefix), ("nt));", Nothing)],
 )];
 
+/// The outcome of another production: pushes its nonterminal.
 pub const OUTCOME_PUSH: &[Line] = &[
     (
         Step::Line(0),
@@ -232,8 +251,10 @@ pub const OUTCOME_PUSH: &[Line] = &[
     ),
 ];
 
+/// The holes of `OUTCOME_PUSH`: the variant, how many states to pop, the nonterminal.
 pub const OUTCOME_PUSH_HOLES: &[Kind] = &[Kind::Name, Kind::Number, Kind::Number];
 
+/// The function for a symbol of an unexpected variant, which panics.
 pub const MISMATCH: &[Line] = &[
     (Step::Line(0), &[("#[inline(never)]", Nothing)]),
     (
@@ -247,6 +268,7 @@ pub const MISMATCH: &[Line] = &[
     (Step::Line(0), &[("}", Nothing)]),
 ];
 
+/// The function that pops a symbol of one variant.
 pub const POP: &[Line] = &[
     (
         Step::Line(0),
@@ -302,12 +324,16 @@ pub const POP: &[Line] = &[
     (Step::Line(0), &[("}", Nothing)]),
 ];
 
+/// The holes of `POP`: variant, location type, parameters of the symbol enum, variant's type.
 pub const POP_HOLES: &[Kind] = &[Kind::Name, Kind::Text, Kind::Text, Kind::Text];
 
+/// A type parameter of a pop function.
 pub const POP_ROW: &[Line] = &[(Step::Line(2), &[("", Hole(0)), (",", Nothing)])];
 
+/// The hole of `POP_ROW`: the type parameter.
 pub const POP_ROW_HOLES: &[Kind] = &[Kind::Text];
 
+/// The reduce function of one production.
 pub const REDUCE_FN: &[Line] = &[
     (Step::One(Class::HeaderReduceFn), NO_PARTS),
     (Step::Line(0), &[("{", Nothing)]),
