@@ -1,0 +1,12 @@
+pub mod Agreeing
+pub mod Numbers
+pub mod Settling
+pub mod Scanning
+pub mod Piecing
+pub mod Cutting
+pub mod Codes
+pub mod Back
+pub mod Tables
+pub mod Broken
+pub mod Near
+pub mod Examples
