@@ -4,10 +4,9 @@ use Rattle.std.specs.Str.{IsUtf8}
 use Rattle.std.proofs.lemmas.Str.{IsUtf8-append}
 use Rattle.lp_spelling.specs.Counting.{feeds}
 use Rattle.lp_spelling.specs.LineReading.{◌>>=◌}
-use Rattle.lp_spelling.specs.TableReading.{Front, front_of, Table, with_number, goes_on_after, entries_within, entries}
+use Rattle.lp_spelling.specs.TableReading.{Front, front_of, Table, with_number, goes_on_after, entries_within, entries, IsBroken, broken_here, broken_end, broken_feed, broken_skip, broken_entry}
 use Rattle.lp_spelling.specs.TableReading.Front.{feed, skip, ends, found_entry, wrong}
 use Rattle.lp_local.specs.Agreeing.{Agree, lines_before}
-use Rattle.lp_local.specs.Breaking.{IsBroken, broken_here, broken_end, broken_feed, broken_skip, broken_entry}
 use Rattle.lp_local.proofs.Agreeing.{feeds_feed, feeds-append, before_rest, agree_front, feed_front, line_shared}
 use Rattle.lp_local.proofs.Settling.{Left, behind_byte, from_byte, before_byte}
 use Rattle.lp_local.proofs.Tables.{StepLeft, GoesTo, front_left, left_step, more_behind, front_over}

@@ -5,11 +5,10 @@ use Rattle.std.specs.Str.{IsUtf8, chars}
 use Rattle.std.proofs.lemmas.Bool.{both_ways}
 use Rattle.lp_tok.specs.Cut.{StopsAt}
 use Rattle.lp_spelling.specs.Counting.{front_line, behind_line, feeds, settled}
-use Rattle.lp_spelling.specs.TableReading.{entries}
+use Rattle.lp_spelling.specs.TableReading.{entries, IsBroken}
 use Rattle.lp_spelling.proofs.Reading.{starts_ok}
 use Rattle.lp_local.specs.Agreeing.{first_lines, Agree, lines_before}
 use Rattle.lp_local.specs.Beginning.{is_line_end}
-use Rattle.lp_local.specs.Breaking.{IsBroken}
 use Rattle.lp_local.proofs.Agreeing.{feeds_feed, feeds-append, before_rest, before_on, agree_all, Shared, shared_front, split_first, line_behind, line_none, line_told, starts_shared}
 use Rattle.lp_local.proofs.Settling.{Left, settled_left, behind_byte, from_byte, SettledShared, settled_shared}
 use Rattle.lp_local.proofs.Codes.{CodeShared, code_shared, UseShared, use_shared}

@@ -1,23 +1,24 @@
 -- Reading the entries of a table.
 use Rattle.std.proofs.Common.{◌≡◌, ℕ, ℤ, pos, neg_ℤ, ◌+◌, ◌-◌, ◌^◌, ◌==◌, ◌<◌, ◌≤◌, zero, suc, Bool, true, false, not, cond, if◌then◌else◌, ◌&&◌, inl, inr, List, [], ◌∷◌, ◌++◌, length, get_or, take, drop, codes, Option, Some, None, Result, Ok, Err, refl, sym, ◌∙◌, ap, arith, eqb, ltb, append_assoc, append-nil, length-drop, subst, w32}
 use Rattle.std.proofs.Math.Dec.{leb}
+use Rattle.std.specs.Bool.{OnFalse}
 use Rattle.std.specs.List.{starts_with, prefix_len, list_all}
 use Rattle.std.specs.Result.{OkIff}
 use Rattle.std.specs.Char.{encode_utf8, is_whitespace, len_utf8}
 use Rattle.std.specs.Str.{IsUtf8, IsCharBoundary, bytes_eq}
 use Rattle.std.specs.Str.Parse.{AllDigits, digits_value, ParsesSigned}
-use Rattle.std.proofs.lemmas.Bool.{and_parts, cases_Bool, cond-true, cond-false, cond_both, leb-true, le-leb, ltb-true, lt-ltb, false_from_ne_true}
+use Rattle.std.proofs.lemmas.Bool.{and_parts, cases_Bool, cond-true, cond-false, cond_both, leb-true, le-leb, ltb-true, lt-ltb, false_from_ne_true, not_from_false, OnFalse_from}
 use Rattle.std.proofs.lemmas.List.{at_drop_all, drop_more, drop-drop, get_or-drop, nil_from_length}
 use Rattle.std.proofs.lemmas.List.Sums.{prefix_len_passes, prefix_len-le-length}
 use Rattle.std.proofs.lemmas.Str.{chars-nil, chars_past_char, IsCharBoundary-start, IsCharBoundary-after_ascii, IsCharBoundary-past_char}
 use Rattle.std.proofs.lemmas.Str.Parse.{IsNumeralModel, numerals_by_value, tells_digits, parse_signed_minus, parse_signed_plain}
 use Rattle.lp_spelling.specs.declared.rows.RowStep.{RowStep}
 use Rattle.lp_spelling.specs.declared.rows.RowStep.TheVariants as step
-use Rattle.lp_spelling.specs.Counting.{line_len}
+use Rattle.lp_spelling.specs.Counting.{is_text, line_len}
 use Rattle.lp_spelling.specs.HoleEnds.{is_digit}
 use Rattle.lp_spelling.specs.Fillings.{is_number}
 use Rattle.lp_spelling.specs.LineReading.{◌>>=◌, after}
-use Rattle.lp_spelling.specs.TableReading.{negative_of, positive_of, number_of, sign_len, number_end, entry_in, char_blank, blank_of, blank_len, Front, entry_front, front_after_blank, front_of, Table, with_number, goes_on_after, entries_within, entries, ReadsTable, IsFront, IsEntryAt}
+use Rattle.lp_spelling.specs.TableReading.{negative_of, positive_of, number_of, sign_len, number_end, entry_in, char_blank, blank_of, blank_len, Front, entry_front, front_after_blank, front_of, Table, with_number, goes_on_after, entries_within, entries, IsBroken, broken_here, broken_end, broken_feed, broken_skip, broken_entry, ReadsTable, IsFront, IsEntryAt}
 use Rattle.lp_spelling.specs.TableReading.Front.{feed, skip, ends, found_entry, wrong}
 use Rattle.lp_spelling.proofs.Fitting.{all_digits, number_parts}
 use Rattle.lp_spelling.proofs.Reading.{starts_ok}
@@ -298,3 +299,95 @@ entry_step text at step.Wrong lt n s e b h = front_entry text at None lt n s e b
 entry_step text at (step.Line next) lt n s e b h = absurd h
 entry_step text at (step.Skip next) lt n s e b h = absurd h
 entry_step text at step.End lt n s e b h = absurd h
+
+-- what stands in front takes something off
+abbrev pub IsShorter : ℕ → Front → Type 0
+IsShorter n (feed r) = length r < n
+IsShorter n (skip r) = length r < n
+IsShorter n ends = Unit {0}
+IsShorter n (found_entry z r) = length r < n
+IsShorter n wrong = Unit {0}
+
+drop_shorter : (k b : ℕ) (t : List ℕ) → 0 < k → length (drop k (b ∷ t)) < length (b ∷ t)
+drop_shorter k b t some = let e = length-drop k (b ∷ t) in omega (arith, some, e)
+
+comment_shorter : (b : ℕ) (t : List ℕ) → (b == 10) ≡ false → length (drop (line_len (b ∷ t)) (b ∷ t)) < length (b ∷ t)
+comment_shorter b t n =
+    let on : line_len (b ∷ t) ≡ 1 + line_len t = cond-true (is_text b) (1 + line_len t) 0 (not_from_false _ n) in
+    drop_shorter (line_len (b ∷ t)) b t (omega (arith, on))
+
+entry_shorter : (text : List ℕ) (o : Option ℤ) → number_of (take (number_end text) text) ≡ o → IsShorter (length text) (entry_front (entry_in text))
+entry_shorter text None e = subst (λ x. IsShorter (length text) (entry_front x)) (sym (entry_none text e)) tt
+entry_shorter text (Some z) e =
+    let y : List ℕ = drop (number_end text) text in
+    elim (cases_Bool (starts_with eqb y (codes ","))) [
+      | inl s ↦
+          let comma : y ≡ 44 ∷ drop 1 y = starts_ok (codes ",") y s in
+          let size : length y ≡ suc (length (drop 1 y)) = ap length comma in
+          let whole = length-drop (number_end text) text in
+          subst (λ r. IsShorter (length text) (entry_front r)) (sym (entry_some text z e s)) (omega (arith, size, whole))
+      | inr n ↦ subst (λ x. IsShorter (length text) (entry_front x)) (sym (entry_open text z e n)) tt
+    ]
+
+front_shorter : (text : List ℕ) → IsShorter (length text) (front_of text)
+unfolding front_of
+front_shorter [] = tt
+front_shorter (b ∷ t) =
+    cond_both (b == 10) (feed t) (cond (starts_with eqb (b ∷ t) (codes "//")) (skip (drop (line_len (b ∷ t)) (b ∷ t))) (cond (b == 93) ends (front_after_blank (b ∷ t)))) (λ f. IsShorter (length (b ∷ t)) f)
+    (λ y. omega arith)
+    (λ n.
+    cond_both (starts_with eqb (b ∷ t) (codes "//")) (skip (drop (line_len (b ∷ t)) (b ∷ t))) (cond (b == 93) ends (front_after_blank (b ∷ t))) (λ f. IsShorter (length (b ∷ t)) f)
+    (λ s. comment_shorter b t n)
+    (λ s.
+    cond_both (b == 93) ends (front_after_blank (b ∷ t)) (λ f. IsShorter (length (b ∷ t)) f)
+    (λ e. tt)
+    (λ e.
+    cond_both (ltb 0 (blank_len (b ∷ t))) (skip (drop (blank_len (b ∷ t)) (b ∷ t))) (entry_front (entry_in (b ∷ t))) (λ f. IsShorter (length (b ∷ t)) f)
+    (λ k. drop_shorter (blank_len (b ∷ t)) b t (ltb-true 0 (blank_len (b ∷ t)) k))
+    (λ k. entry_shorter (b ∷ t) (number_of (take (number_end (b ∷ t)) (b ∷ t))) refl))))
+
+-- a place that is reached from another, within so many steps of the end of the text
+pub record Reached (text : List ℕ) (from n at : ℕ) (at_front : Bool) : Type 0 where
+  pub far : length text ≤ n + at
+  pub broken : (rest : List ℕ) → IsBroken at_front (drop at text) rest → IsBroken true (drop from text) rest
+
+pub reached_start : (text : List ℕ) (from : ℕ) → from ≤ length text → Reached text from (length text - from) from true
+reached_start text from le = record { far = omega arith; broken = λ rest b. b }
+
+shorter_by : (text : List ℕ) (at : ℕ) (f : Front) → front_of (drop at text) ≡ f → IsShorter (length (drop at text)) f
+shorter_by text at f e = subst (λ (x : Front). IsShorter (length (drop at text)) x) e (front_shorter (drop at text))
+
+goes_far : (text : List ℕ) (m n at next : ℕ) → length text ≤ m + at → m ≡ n + 1 → next ≤ length text → length (drop next text) < length (drop at text) → length text ≤ n + next
+goes_far text m n at next far e le lt =
+    let a = length-drop at text in
+    let b = length-drop next text in
+    omega (arith, a, b, lt, le, far, e)
+
+pub reached_entry : (text : List ℕ) (from m n at next : ℕ) (at_front : Bool) (z : ℤ) → Reached text from m at at_front → m ≡ n + 1 → front_of (drop at text) ≡ found_entry z (drop next text) → IsCharBoundary text next → Reached text from n next false
+reached_entry text from m n at next at_front z r e f b = record {
+  far = goes_far text m n at next r.far e b.0 (shorter_by text at (found_entry z (drop next text)) f);
+  broken = λ rest x. r.broken rest (broken_entry at_front z (drop at text) (drop next text) rest f x);
+}
+
+pub reached_line : (text : List ℕ) (from m n at next : ℕ) (at_front : Bool) → Reached text from m at at_front → m ≡ n + 1 → front_of (drop at text) ≡ feed (drop next text) → IsCharBoundary text next → Reached text from n next true
+reached_line text from m n at next at_front r e f b = record {
+  far = goes_far text m n at next r.far e b.0 (shorter_by text at (feed (drop next text)) f);
+  broken = λ rest x. r.broken rest (broken_feed at_front (drop at text) (drop next text) rest f x);
+}
+
+pub reached_skip : (text : List ℕ) (from m n at next : ℕ) (at_front : Bool) → Reached text from m at at_front → m ≡ n + 1 → front_of (drop at text) ≡ skip (drop next text) → IsCharBoundary text next → Reached text from n next at_front
+reached_skip text from m n at next at_front r e f b = record {
+  far = goes_far text m n at next r.far e b.0 (shorter_by text at (skip (drop next text)) f);
+  broken = λ rest x. r.broken rest (broken_skip at_front (drop at text) (drop next text) rest f x);
+}
+
+-- where the table is broken
+pub reached_wrong : (text : List ℕ) (from n at : ℕ) (at_front : Bool) → Reached text from n at at_front → front_of (drop at text) ≡ wrong → IsBroken true (drop from text) (drop at text)
+reached_wrong text from n at at_front r f = r.broken (drop at text) (broken_here at_front (drop at text) f)
+
+pub reached_over : (text : List ℕ) (from n at : ℕ) (at_front : Bool) → Reached text from n at at_front → n ≡ 0 → IsBroken true (drop from text) (drop at text)
+reached_over text from n at at_front r e = let far = r.far in reached_wrong text from n at at_front r (front_none text at (omega (arith, far, e)))
+
+pub reached_end : (text : List ℕ) (from n at : ℕ) (at_front : Bool) → Reached text from n at at_front → front_of (drop at text) ≡ ends → OnFalse at_front (IsBroken true (drop from text) (drop at text))
+reached_end text from n at at_front r f =
+    OnFalse_from at_front (IsBroken true (drop from text) (drop at text)) (λ b. r.broken (drop at text) (subst (λ (x : Bool). IsBroken x (drop at text) (drop at text)) (sym b) (broken_end (drop at text) f)))

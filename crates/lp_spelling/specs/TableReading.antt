@@ -96,6 +96,15 @@ entries_within (suc n) at_front text = goes_on_after (entries_within n) at_front
 unfoldable pub entries : List ℕ → Option Table
 entries text = entries_within (length text) true text
 
+-- the entries in front of a text, where nothing or something stands before it on its line, go on up to a place at which
+-- nothing of a table stands, or a `]` that isn't at the front of its line
+pub data IsBroken : Bool → List ℕ → List ℕ → Type 0 where
+  broken_here : (at_front : Bool) (text : List ℕ) → front_of text ≡ wrong → IsBroken at_front text text
+  broken_end : (text : List ℕ) → front_of text ≡ ends → IsBroken false text text
+  broken_feed : (at_front : Bool) (text next rest : List ℕ) → front_of text ≡ feed next → IsBroken true next rest → IsBroken at_front text rest
+  broken_skip : (at_front : Bool) (text next rest : List ℕ) → front_of text ≡ skip next → IsBroken at_front next rest → IsBroken at_front text rest
+  broken_entry : (at_front : Bool) (z : ℤ) (text next rest : List ℕ) → front_of text ≡ found_entry z next → IsBroken false next rest → IsBroken at_front text rest
+
 -- what the code finds at a place behind blanks
 abbrev pub IsEntryAt : List ℕ → ℕ → RowStep → Type 0
 IsEntryAt text at (step.Entry z next) = (entry_in (drop at text) ≡ Some (z, drop next text)) × IsCharBoundary text next

@@ -1,6 +1,7 @@
 //! Reading the entries of a table.
 
-ghost use Rattle.std.specs.Prelude.{◌≡◌, ◌<◌, ◌≤◌, ◌+◌, ◌==◌, ◌∷◌, length, drop, IfOk};
+ghost use Rattle.std.specs.Prelude.{◌≡◌, ◌<◌, ◌≤◌, ◌+◌, ◌==◌, ◌∷◌, true, length, drop, IfOk};
+ghost use Rattle.std.specs.Bool.{OnFalse};
 ghost use Rattle.std.specs.Str.{IsCharBoundary};
 ghost use Rattle.lp_spelling.specs.TableReading as tables;
 
@@ -165,7 +166,8 @@ fn row_step(text: &str, at: usize) -> RowStep
     entry_at(text, at)
 }
 
-/// What a table holds, and where its last line begins; or the place of what stands in no table.
+/// What a table holds, and where its last line begins; or the place of what stands in no table, or
+/// of a `]` that isn't at the front of its line.
 #[derive(Drop)]
 pub struct Table {
     pub numbers: Vec<i32>,
@@ -179,6 +181,7 @@ pub fn read_entries(alloc: Global, text: &str, from: usize) -> Result<Table, All
     requires { IsCharBoundary text.now from }
     ensures exact { IfOk result (λ table. tables.ReadsTable (drop from text.now) table.numbers.items (drop table.end text.now) table.ended) }
     ensures end { IfOk result (λ table. IsCharBoundary text.now table.end) }
+    ensures broken { IfOk result (λ table. OnFalse table.ended (tables.IsBroken true (drop from text.now) (drop table.end text.now))) }
 {
     let mut numbers = Vec::new(alloc);
     let mut at = from;
