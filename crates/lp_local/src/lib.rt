@@ -1,0 +1,2 @@
+//! Laws of the first lines of a text: what is read of its front depends on them alone.
+#![tactic(auto)]
