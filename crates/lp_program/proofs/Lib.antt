@@ -24,6 +24,7 @@ pub mod Existing
 pub mod Found
 pub mod Held
 pub mod Many
+pub mod Nearby
 pub mod Opened
 pub mod Steps
 pub mod Whole
