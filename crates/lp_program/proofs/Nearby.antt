@@ -1,5 +1,6 @@
 -- Texts that share their first lines with the text of a reader.
-use Rattle.std.proofs.Common.{◌≡◌, ℕ, suc, ◌+◌, ◌-◌, ◌==◌, ◌≤◌, ◌<◌, ◌^◌, min, ◌⊎◌, inl, inr, false, true, ℤ, List, [], ◌∷◌, ◌++◌, length, Some, take, drop, codes, refl, sym, ap, ◌∙◌, arith, eqb, ltb, subst, append_assoc, append-nil, length-append, length-drop, take-append-drop}
+use Rattle.std.proofs.Common.{◌≡◌, ℕ, suc, ◌+◌, ◌-◌, ◌==◌, ◌≤◌, ◌<◌, ◌^◌, min, ◌⊎◌, inl, inr, Bool, false, true, ℤ, List, [], ◌∷◌, ◌++◌, length, Some, take, drop, codes, refl, sym, ap, ◌∙◌, arith, eqb, ltb, subst, append_assoc, append-nil, length-append, length-drop, take-append-drop}
+use Rattle.std.specs.Bool.{Decides}
 use Rattle.std.specs.List.{starts_with}
 use Rattle.std.specs.Str.{IsUtf8, IsCharBoundary, chars, encode_utf8_all}
 use Rattle.std.proofs.lemmas.Bool.{cases_lt, cond_both, cond-true, cond-false, le-ltb, lt-ltb}
@@ -266,6 +267,19 @@ place_before n c u count le = elim (cases_lt 0 (length (settled (left c)))) [
       let all = ap feeds (front_whole c) in
       let parts = feeds-append (front_of c) (left c) in
       omega (arith, over, last, all, parts)
+]
+
+-- so is the line itself, and whether nothing is left that counts
+pub front_same : (n : ℕ) (c : Cursor) (text : List ℕ) → next_number c ≤ n → Like n c text → front_line (settled text) ≡ front_line (settled (left c))
+front_same n c text le like = elim (next_same n c text le like) [
+  | inl none ↦ ap (λ (t : List ℕ). front_line (settled t)) none.1
+  | inr some ↦ some.2
+]
+
+pub over_same : (n : ℕ) (c : Cursor) (text : List ℕ) (b : Bool) → (b ≡ true → settled (left c) ≡ []) → (settled (left c) ≡ [] → b ≡ true) → next_number c ≤ n → Like n c text → Decides b (settled text ≡ [])
+over_same n c text b none all le like = elim (next_same n c text le like) [
+  | inl e ↦ ((λ h. ap settled e.1 ∙ e.0), (λ h. all e.0))
+  | inr some ↦ ((λ h. absurd (omega (arith, ap length (none h), some.0))), (λ h. absurd (omega (arith, ap length h, some.1))))
 ]
 
 -- what is told of the first of the lines that count alone

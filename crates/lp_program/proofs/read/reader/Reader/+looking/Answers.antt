@@ -39,7 +39,7 @@ begins-returns-in-One-clause-exact t c =
           at.invariant.asks c.steps-step-items.ensures c.loop-step-test.true c.in-One.is w.if-lines.true (w.result-is ∙ w.if-lines.true))
       | begins-else-lines+in_ok-pick-in-One w ↦
           rw w.self-is
-          (one_of c.args.depth old.prefix.now at.self.prefix.now c.args.part at.self.looked w.pick-in-One.new.self.looked old.cursor at.cursor at.self.cursor c.steps-step-items.result.now at.step-index _ at.lines at.known.items c.in-One.class _ _
+          (one_of c.args.depth old.prefix.now at.self.prefix.now c.args.part at.self.looked w.pick.new.self.looked old.cursor at.cursor at.self.cursor c.steps-step-items.result.now at.step-index _ at.lines at.known.items c.in-One.class _ _
           at.invariant.asks w.in_ok-pick-in-One.ensures.looked c.steps-step-items.ensures c.loop-step-test.true c.in-One.is w.if-lines.false (w.result-is ∙ w.is_some.ensures)
           (ap (λ (r : Reader). r.prefix.now) at.invariant.kept) (ap (λ (r : Reader). r.cursor) at.invariant.kept) w.in_ok-pick-in-One.ensures.exact)
     ]

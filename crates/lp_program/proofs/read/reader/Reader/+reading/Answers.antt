@@ -1,4 +1,5 @@
-use Rattle.std.proofs.Common.{◌≡◌, length, None, Some, arith, refl, sym, ap, ◌∙◌}
+use Rattle.std.proofs.Common.{◌≡◌, ◌++◌, length, take, None, Some, arith, refl, sym, ap, ◌∙◌}
+use Rattle.std.proofs.Math.Seq.{take-append_seam}
 use Rattle.std.proofs.lemmas.Bool.{OnTrue_at}
 use Rattle.std.proofs.lemmas.List.{drop_all}
 use Rattle.std.proofs.lemmas.Result.{IfOk-weaker}
@@ -222,7 +223,17 @@ read_either-returns-clause-reads t c =
 
 -- a reader that is where it was
 pub read_inlined-returns-clause-reads : goal.read_inlined-returns-clause-reads
-read_inlined-returns-clause-reads t c = record { prefix_is = c.in_ok-read_closed.ensures.reads.extends.prefix_is; cursor_is = refl; looked = read_inlined-looked; entries_are = ? }
+read_inlined-returns-clause-reads t c =
+    let old = c.args.self.now in
+    let Inlined : Reading = InlinedChosen (PartChosen c.args.depth old.prefix.now) in
+    let tried = c.in_ok-read_closed.ensures.reads.extends in
+    let count : c.len-count.result ≡ length old.entries.items = omega (arith, old.entries.ok.0) in
+    record {
+      prefix_is = tried.prefix_is;
+      cursor_is = refl;
+      looked = answers_looked Inlined old _ c.read_closed.new.self c.in_ok-read_closed.ensures.chosen;
+      entries_are = c.truncate.ensures.items ∙ ap (λ es. take c.len-count.result es) tried.entries_are ∙ ap (λ n. take n (old.entries.items ++ tried.more)) count ∙ take-append_seam old.entries.items tried.more;
+    }
 
 pub read_inlined-returns-clause-chosen : goal.read_inlined-returns-clause-chosen
 read_inlined-returns-clause-chosen t c =
