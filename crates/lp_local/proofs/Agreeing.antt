@@ -1,6 +1,7 @@
 -- Texts whose first lines are the same: what stands in front of both, and where they are the same text.
-use Rattle.std.proofs.Common.{◌≡◌, ℕ, ◌+◌, ◌-◌, ◌^◌, ◌==◌, ◌<◌, ◌≤◌, zero, suc, Bool, true, false, cond, inl, inr, ◌⊎◌, List, [], ◌∷◌, ◌++◌, length, take, drop, refl, sym, ap, ◌∙◌, subst, arith, append_assoc, append-nil, length-append}
-use Rattle.std.proofs.lemmas.Bool.{cases_Bool, cond-true, cond-false, cond_both, eqb-true, not_from_true, not_from_false}
+use Rattle.std.proofs.Common.{eqb, ◌&&◌, ◌≡◌, ℕ, ◌+◌, ◌-◌, ◌^◌, ◌==◌, ◌<◌, ◌≤◌, zero, suc, Bool, true, false, cond, inl, inr, ◌⊎◌, List, [], ◌∷◌, ◌++◌, length, take, drop, refl, sym, ap, ◌∙◌, subst, arith, append_assoc, append-nil, length-append}
+use Rattle.std.specs.List.{starts_with}
+use Rattle.std.proofs.lemmas.Bool.{and_left, cases_Bool, cond-true, cond-false, cond_both, eqb-true, not_from_true, not_from_false}
 use Rattle.std.proofs.lemmas.List.{append_cancel_left, take_at, take_all, drop_at, drop_all}
 use Rattle.std.proofs.lemmas.List.Sums.{sum_by-cons, sum_by-append}
 use Rattle.lp_spelling.specs.Counting.{is_text, line_len, front_line, behind_line, feeds}
@@ -22,6 +23,13 @@ pub before_rest : (x rest text : List ℕ) → text ≡ x ++ rest → lines_befo
 before_rest x rest text e =
     let whole : feeds text ≡ feeds x + feeds rest = ap feeds e ∙ feeds-append x rest in
     omega (arith, whole)
+
+-- the lines that end before a rest of a rest
+pub before_on : (x mid y rest text : List ℕ) → text ≡ x ++ mid → mid ≡ y ++ rest → lines_before text rest ≡ lines_before text mid + lines_before mid rest
+before_on x mid y rest text e f =
+    let one : feeds text ≡ feeds x + feeds mid = ap feeds e ∙ feeds-append x mid in
+    let two : feeds mid ≡ feeds y + feeds rest = ap feeds f ∙ feeds-append y rest in
+    omega (arith, one, two)
 
 -- agreement is an equation: it goes both ways, and on
 pub agree_same : (n : ℕ) (a b : List ℕ) → a ≡ b → Agree n a b
@@ -107,7 +115,7 @@ agree_all n a b lt h =
     let none : s.rest ≡ [] = agree_nothing (n - feeds a) s.rest (omega arith) s.agree in
     sym (append-nil a) ∙ ap (λ (r : List ℕ). a ++ r) (sym none) ∙ sym s.b_is
 
-past_more : (text : List ℕ) → feeds text + 1 < 2 ^ 64 → feeds text < past_last text
+pub past_more : (text : List ℕ) → feeds text + 1 < 2 ^ 64 → feeds text < past_last text
 past_more text small =
     cond_both (is_ended text) (line_number (feeds text)) (line_number (line_number (feeds text))) (λ (k : ℕ). feeds text < k) (λ y. omega arith) (λ z. omega arith)
 
@@ -253,4 +261,17 @@ line_told n a b h = elim (line_shared n a b h) [
             agree_equal n (behind_line a) (behind_line b) s.behind s.other (ap behind_line s.a_is ∙ line_behind s.line s.behind s.within) (ap behind_line s.b_is ∙ line_behind s.line s.other s.within) s.agree;
         some = λ lt. (let size = ap length s.b_is ∙ length-append s.line (10 ∷ s.other) in omega (arith, size));
       }
+]
+
+-- whether a text begins with another that has no line feed
+starts_over : (s line r : List ℕ) → feeds s ≡ 0 → starts_with eqb (line ++ 10 ∷ r) s ≡ starts_with eqb line s
+starts_over [] line r none = refl
+starts_over (c ∷ s) [] r none = and_left (c == 10) (starts_with eqb r s) (no_feed c s none).0
+starts_over (c ∷ s) (b ∷ line) r none = ap (λ y. eqb c b && y) (starts_over s line r (no_feed c s none).1)
+
+pub starts_shared : (n : ℕ) (a b s : List ℕ) → feeds s ≡ 0 → Agree (suc n) a b → starts_with eqb a s ≡ starts_with eqb b s
+starts_shared n a b s none h = elim (line_shared n a b h) [
+  | inl e ↦ ap (λ (x : List ℕ). starts_with eqb x s) e
+  | inr l ↦
+      ap (λ (x : List ℕ). starts_with eqb x s) l.a_is ∙ starts_over s l.line l.behind none ∙ sym (starts_over s l.line l.other none) ∙ sym (ap (λ (x : List ℕ). starts_with eqb x s) l.b_is)
 ]

@@ -1,7 +1,9 @@
 pub mod Agreeing
+pub mod Numbers
 pub mod Settling
 pub mod Scanning
 pub mod Piecing
 pub mod Cutting
 pub mod Codes
 pub mod Tables
+pub mod Broken

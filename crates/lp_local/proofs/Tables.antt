@@ -93,7 +93,7 @@ front_left (b ∷ t) u =
     (λ k. drop_left (blank_len (b ∷ t)) (b ∷ t) u (blank_cut b t u) (ltb-true 0 (blank_len (b ∷ t)) k) (omega arith))
     (λ k. entry_left (b ∷ t) (number_of (take (number_end (b ∷ t)) (b ∷ t))) u refl))))
 
-left_step : (text rest last : List ℕ) → StepLeft text rest → Left rest last → Left text last
+pub left_step : (text rest last : List ℕ) → StepLeft text rest → Left rest last → Left text last
 left_step text rest last s l = record { utf8 = l.utf8; front = s.front ++ l.front; whole = s.whole ∙ ap (λ (x : List ℕ). s.front ++ x) l.whole ∙ sym (append_assoc s.front l.front last) }
 
 -- what is read stands in front of what is left
@@ -145,7 +145,7 @@ within_enough (suc m) (suc k) at_front text t u le h =
     within_enough m k g r x s.utf8 (omega (arith, size, some, le)) e)
 
 -- a line with its line feed, and more, behind it
-abbrev more_behind : List ℕ → Front → Front
+abbrev pub more_behind : List ℕ → Front → Front
 more_behind q (feed r) = feed (r ++ q)
 more_behind q (skip r) = skip (r ++ q)
 more_behind q ends = ends
@@ -244,7 +244,7 @@ blanks_over b t r u =
     ∙ either_over (10 ∷ r) (ltb 0 k) (skip (drop k (b ∷ t))) (entry_front (entry_in (b ∷ t)))
 
 -- so what stands in front is told within its line
-front_over : (b : ℕ) (t r : List ℕ) → IsUtf8 (b ∷ t) → feeds (b ∷ t) ≡ 0 → front_of (b ∷ (t ++ 10 ∷ r)) ≡ more_behind (10 ∷ r) (front_of (b ∷ t))
+pub front_over : (b : ℕ) (t r : List ℕ) → IsUtf8 (b ∷ t) → feeds (b ∷ t) ≡ 0 → front_of (b ∷ (t ++ 10 ∷ r)) ≡ more_behind (10 ∷ r) (front_of (b ∷ t))
 unfolding front_of
 front_over b t r u none =
     let q : List ℕ = 10 ∷ r in
