@@ -9,7 +9,7 @@ use Rattle.lp_spelling.specs.Counting.{feeds, settled}
 use Rattle.lp_spelling.proofs.Reading.{starts_ok}
 use Rattle.lp_local.specs.Agreeing.{Agree, lines_before}
 use Rattle.lp_local.specs.Beginning.{BeginsAs, is_line_end}
-use Rattle.lp_local.proofs.Agreeing.{feeds-append, before_rest, Shared, shared_front, line_shared}
+use Rattle.lp_local.proofs.Agreeing.{feeds-append, before_rest, Shared, shared_front, line_shared, starts_shared}
 use Rattle.lp_local.proofs.Settling.{Left, settled_left, behind_byte, from_byte, before_byte, SettledShared, settled_shared}
 use Rattle.lp_local.proofs.Scanning.{begins_itself, begins_behind}
 use Rattle.lp_local.proofs.Cutting.{stops_told}
@@ -75,15 +75,14 @@ code_shared n left whole rest b u e stops closes lt h =
     let before : lines_before left rest ≡ feeds whole = before_rest whole rest left e in
     let s : CutShared n whole rest b =
     cut_shared n whole rest b (before_byte whole 125 (drop 1 rest) (omega arith) v) w (omega (arith, before, lt)) (subst (λ (x : List ℕ). StopsAt (chars x) (chars rest)) e stops) (subst (λ (x : List ℕ). Agree n x b) e h) in
-    let agree : Agree (n - feeds whole) (125 ∷ drop 1 rest) s.other = subst (λ (x : List ℕ). Agree (n - feeds whole) x s.other) brace s.agree in
-    let none : feeds (125 ∷ []) ≡ 0 = refl in
-    let f : Shared (n - feeds whole - feeds (125 ∷ [])) (125 ∷ []) (drop 1 rest) s.other = shared_front (n - feeds whole) (125 ∷ []) (drop 1 rest) s.other (omega (arith, before, lt, none)) agree in
+    let next : n - feeds whole ≡ suc (n - feeds whole - 1) = omega (arith, before, lt) in
+    let same : starts_with eqb rest (codes "}") ≡ starts_with eqb s.other (codes "}") = starts_shared (n - feeds whole - 1) rest s.other (codes "}") refl (subst (λ i. Agree i rest s.other) next s.agree) in
     record {
       utf8 = w;
       other = s.other;
       b_is = s.b_is;
       stops = s.stops;
-      closes = ap (λ (x : List ℕ). starts_with eqb x (codes "}")) f.b_is;
+      closes = sym same ∙ closes;
       agree = subst (λ i. Agree (n - i) rest s.other) (sym before) s.agree;
     }
 

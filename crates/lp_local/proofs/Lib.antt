@@ -5,5 +5,7 @@ pub mod Scanning
 pub mod Piecing
 pub mod Cutting
 pub mod Codes
+pub mod Back
 pub mod Tables
 pub mod Broken
+pub mod Examples

@@ -1,5 +1,5 @@
 -- What a scan passes of a text, it passes in front of each text that begins as the rest does.
-use Rattle.std.proofs.Common.{◌≡◌, ℕ, ◌+◌, ◌-◌, ◌==◌, zero, suc, true, false, ◌&&◌, List, [], ◌∷◌, ◌++◌, Option, Some, None, refl, sym, ap, ◌∙◌, subst, eqb, inl, inr, ◌⊎◌, append_assoc}
+use Rattle.std.proofs.Common.{◌≡◌, ℕ, ◌+◌, ◌-◌, ◌==◌, zero, suc, true, false, cond, ◌&&◌, List, [], ◌∷◌, ◌++◌, Option, Some, None, refl, sym, ap, ◌∙◌, subst, eqb, inl, inr, ◌⊎◌, append_assoc}
 use Rattle.std.proofs.lemmas.Bool.{cases_Bool, cond-true, cond-false, eqb-true, both_ways}
 use Rattle.lp_tok.specs.Signs.{quote, apostrophe, star, slash, hash, backslash}
 use Rattle.lp_tok.specs.Scans.{continues_word, after_word, from_char, from_unescaped, past, past_any, hashes, after_hashes, past_hashes, RawEnd, end_here, raw_end, after_comment}
@@ -133,46 +133,43 @@ comment_goes n c d f m e o s =
     cond-false ((c == slash) && (f == star)) _ _ (ap (λ x. (c == slash) && (x == star)) (sym e) ∙ o)
     ∙ cond-false ((c == star) && (f == slash)) _ _ (ap (λ x. (c == star) && (x == slash)) (sym e) ∙ s)
 
+comment_opens : (n c d : ℕ) (m : List ℕ) → ((c == slash) && (d == star)) ≡ true → after_comment n (c ∷ d ∷ m) ≡ after_comment (n + 1) m
+comment_opens n c d m o = cond-true ((c == slash) && (d == star)) _ _ o
+
+comment_closes : (n c d : ℕ) (m : List ℕ) → ((c == slash) && (d == star)) ≡ false → ((c == star) && (d == slash)) ≡ true →
+    after_comment n (c ∷ d ∷ m) ≡ cond (n == 0) (Some m) (after_comment (n - 1) m)
+comment_closes n c d m o e = cond-false ((c == slash) && (d == star)) _ _ o ∙ cond-true ((c == star) && (d == slash)) _ _ e
+
+comment_ends : (n c d : ℕ) (m : List ℕ) → ((c == slash) && (d == star)) ≡ false → ((c == star) && (d == slash)) ≡ true → (n == 0) ≡ true → after_comment n (c ∷ d ∷ m) ≡ Some m
+comment_ends n c d m o e z = comment_closes n c d m o e ∙ cond-true (n == 0) (Some m) (after_comment (n - 1) m) z
+
+comment_shuts : (n c d : ℕ) (m : List ℕ) → ((c == slash) && (d == star)) ≡ false → ((c == star) && (d == slash)) ≡ true → (n == 0) ≡ false → after_comment n (c ∷ d ∷ m) ≡ after_comment (n - 1) m
+comment_shuts n c d m o e z = comment_closes n c d m o e ∙ cond-false (n == 0) (Some m) (after_comment (n - 1) m) z
+
+-- a comment that goes on behind two characters
+finds_behind : (n k c d : ℕ) (cs next : List ℕ) → ((m : List ℕ) → after_comment n (c ∷ d ∷ m) ≡ after_comment k m) → Finds (after_comment k) cs next → Finds (after_comment n) (c ∷ d ∷ cs) next
+finds_behind n k c d cs next step p = record {
+  first = c;
+  others = d ∷ p.first ∷ p.others;
+  whole = ap (λ (r : List ℕ). c ∷ d ∷ r) p.whole;
+  again = λ z. step (p.first ∷ (p.others ++ z)) ∙ p.again z;
+}
+
 pub comment_finds : (n : ℕ) (cs next : List ℕ) → after_comment n cs ≡ Some next → Finds (after_comment n) cs next
 comment_finds n [] next h = absurd cc
 comment_finds n (c ∷ []) next h = absurd cc
 comment_finds n (c ∷ d ∷ cs) next h = elim (cases_Bool ((c == slash) && (d == star))) [
-  | inl o ↦
-      let step : after_comment n (c ∷ d ∷ cs) ≡ after_comment (n + 1) cs = cond-true ((c == slash) && (d == star)) _ _ o in
-      let p : Finds (after_comment (n + 1)) cs next = comment_finds (n + 1) cs next (sym step ∙ h) in
-      record {
-        first = c;
-        others = d ∷ p.first ∷ p.others;
-        whole = ap (λ (r : List ℕ). c ∷ d ∷ r) p.whole;
-        again = λ z. cond-true ((c == slash) && (d == star)) _ _ o ∙ p.again z;
-      }
+  | inl o ↦ finds_behind n (n + 1) c d cs next (λ m. comment_opens n c d m o) (comment_finds (n + 1) cs next (sym (comment_opens n c d cs o) ∙ h))
   | inr o ↦ elim (cases_Bool ((c == star) && (d == slash))) [
     | inl e ↦ elim (cases_Bool (n == 0)) [
       | inl z ↦
-          let step : after_comment n (c ∷ d ∷ cs) ≡ Some cs
-          = cond-false ((c == slash) && (d == star)) _ _ o ∙ cond-true ((c == star) && (d == slash)) _ _ e ∙ cond-true (n == 0) _ _ z in
-          let found : Some cs ≡ Some next = sym step ∙ h in
+          let found : Some cs ≡ Some next = sym (comment_ends n c d cs o e z) ∙ h in
           let same : cs ≡ next = cc in
-          record {
-            first = c;
-            others = d ∷ [];
-            whole = ap (λ (r : List ℕ). c ∷ d ∷ r) same;
-            again = λ y. cond-false ((c == slash) && (d == star)) _ _ o ∙ cond-true ((c == star) && (d == slash)) _ _ e ∙ cond-true (n == 0) _ _ z;
-          }
-      | inr z ↦
-          let step : after_comment n (c ∷ d ∷ cs) ≡ after_comment (n - 1) cs
-          = cond-false ((c == slash) && (d == star)) _ _ o ∙ cond-true ((c == star) && (d == slash)) _ _ e ∙ cond-false (n == 0) _ _ z in
-          let p : Finds (after_comment (n - 1)) cs next = comment_finds (n - 1) cs next (sym step ∙ h) in
-          record {
-            first = c;
-            others = d ∷ p.first ∷ p.others;
-            whole = ap (λ (r : List ℕ). c ∷ d ∷ r) p.whole;
-            again = λ y. cond-false ((c == slash) && (d == star)) _ _ o ∙ cond-true ((c == star) && (d == slash)) _ _ e ∙ cond-false (n == 0) _ _ z ∙ p.again y;
-          }
+          record { first = c; others = d ∷ []; whole = ap (λ (r : List ℕ). c ∷ d ∷ r) same; again = λ y. comment_ends n c d y o e z }
+      | inr z ↦ finds_behind n (n - 1) c d cs next (λ m. comment_shuts n c d m o e z) (comment_finds (n - 1) cs next (sym (comment_shuts n c d cs o e z) ∙ h))
     ]
     | inr e ↦
-        let step : after_comment n (c ∷ d ∷ cs) ≡ after_comment n (d ∷ cs) = comment_goes n c d d cs refl o e in
-        let p : Finds (after_comment n) (d ∷ cs) next = comment_finds n (d ∷ cs) next (sym step ∙ h) in
+        let p : Finds (after_comment n) (d ∷ cs) next = comment_finds n (d ∷ cs) next (sym (comment_goes n c d d cs refl o e) ∙ h) in
         let same : d ≡ p.first = first_same d p.first cs (p.others ++ next) p.whole in
         record {
           first = c;

@@ -1,9 +1,9 @@
 -- The next line that counts is the same in each text that agrees up to it.
-use Rattle.std.proofs.Common.{◌≡◌, ℕ, ◌+◌, ◌-◌, ◌<◌, ◌≤◌, zero, suc, true, false, inl, inr, List, [], ◌∷◌, ◌++◌, length, get_or, drop, refl, sym, ap, ◌∙◌, subst, arith, append_assoc, append-nil, length-append}
+use Rattle.std.proofs.Common.{◌≡◌, ℕ, ◌+◌, ◌-◌, ◌<◌, ◌≤◌, zero, suc, true, false, inl, inr, ◌⊎◌, List, [], ◌∷◌, ◌++◌, length, get_or, drop, refl, sym, ap, ◌∙◌, subst, arith, append_assoc, append-nil, length-append}
 use Rattle.std.specs.Char.{is_whitespace}
 use Rattle.std.specs.Str.{IsUtf8, chars, trim_start, skip_leading_whitespace, encode_utf8_all}
-use Rattle.std.proofs.lemmas.Bool.{and_parts, cases_Bool, cond-true, cond-false}
-use Rattle.std.proofs.lemmas.List.{drop_at, take_at, get_or-append-add}
+use Rattle.std.proofs.lemmas.Bool.{and_parts, cases_Bool, cases_lt, cond-true, cond-false}
+use Rattle.std.proofs.lemmas.List.{drop_at, take_at, get_or-append-add, nil_from_length}
 use Rattle.std.proofs.lemmas.Str.{encodes-chars, scalars-chars, IsUtf8-append, IsUtf8-take, IsUtf8-drop, IsCharBoundary-before_ascii, IsCharBoundary-after_ascii}
 use lib.Utf8.{encode, scalar, scalars}
 use Rattle.lp_spelling.specs.Counting.{line_len, front_line, behind_line, feeds, is_skipped, settled}
@@ -215,3 +215,13 @@ settled_shared n a b u some lt h =
       agree = subst (λ i. Agree (n - i) (settled a) (settled b)) (sym ka) agree;
       behind = told.behind;
     }
+
+-- where the first n lines have the next line that counts, or the end of the text: the texts are the same, or have the same line
+pub settled_told : (n : ℕ) (a b : List ℕ) → IsUtf8 a → lines_before a (settled a) < n → Agree n a b → (a ≡ b) ⊎ SettledShared n a b
+settled_told n a b u lt h = elim (cases_lt 0 (length (settled a))) [
+  | inl some ↦ inr (settled_shared n a b u some lt h)
+  | inr none ↦
+      let empty : settled a ≡ [] = nil_from_length (settled a) (omega (arith, none)) in
+      let all : feeds (settled a) ≡ 0 = ap feeds empty in
+      inl (agree_all n a b (omega (arith, all, lt)) h)
+]
