@@ -15,10 +15,10 @@ use Rattle.lp_local.proofs.Settling.{Left, settled_left, behind_byte, from_byte,
 use Rattle.lp_local.proofs.Codes.{CutShared, cut_shared, line_end_shared}
 
 -- two parts of a text, of which one is of whole characters
-utf8_before : (x y : List ℕ) → IsUtf8 (x ++ y) → IsUtf8 y → IsUtf8 x
+pub utf8_before : (x y : List ℕ) → IsUtf8 (x ++ y) → IsUtf8 y → IsUtf8 x
 utf8_before x y u v = subst (λ (t : List ℕ). IsUtf8 t) (take_at x y (length x) refl) (IsUtf8-take (x ++ y) (length x) u (IsCharBoundary-at_seam (x ++ y) x y refl v))
 
-utf8_behind : (x y : List ℕ) → IsUtf8 (x ++ y) → IsUtf8 x → IsUtf8 y
+pub utf8_behind : (x y : List ℕ) → IsUtf8 (x ++ y) → IsUtf8 x → IsUtf8 y
 utf8_behind x y u v =
     let size = length-append x y in
     let cut : IsCharBoundary (x ++ y) (length x) = IsCharBoundary-from_take (x ++ y) (length x) u (omega (arith, size)) (subst (λ (t : List ℕ). IsUtf8 t) (sym (take_at x y (length x) refl)) v) in

@@ -1,6 +1,7 @@
 -- A piece of user code is told by its own characters, and the first one behind it.
 use Rattle.std.proofs.Common.{◌≡◌, ℕ, ◌+◌, ◌-◌, ◌==◌, true, false, cond, List, [], ◌∷◌, ◌++◌, Option, Some, None, refl, sym, ap, ◌∙◌, subst, arith, inl, inr, ◌⊎◌, append_assoc}
 use Rattle.std.proofs.lemmas.Bool.{cases_Bool, cond-true, cond-false, cond_both, eqb-true}
+use Rattle.std.proofs.lemmas.List.{append_cancel_right}
 use Rattle.lp_tok.specs.declared.tok.ErrorCode.{ErrorCode}
 use Rattle.lp_tok.specs.declared.tok.ErrorCode.TheVariants.{UnterminatedStringLiteral, ExpectedStringLiteral, UnterminatedBlockComment}
 use Rattle.lp_tok.specs.Signs.{line_feed, quote, apostrophe, letter_r, star, slash, hash}
@@ -245,6 +246,13 @@ piece_told k (c ∷ cs) next h = elim (cases_Bool (c == quote)) [
     ]
   ]
 ]
+
+-- so the same piece stands in front of each text that begins as what follows it
+pub piece_moved : (k : _) (front next y : List ℕ) → code_piece (front ++ next) ≡ Whole k next → BeginsAs next y → code_piece (front ++ y) ≡ Whole k y
+piece_moved k front next y h b =
+    let t : Told code_piece (Whole k) (front ++ next) next = piece_told k (front ++ next) next h in
+    let same : t.front ≡ front = append_cancel_right t.front front next (sym t.whole) in
+    ap (λ (x : List ℕ). code_piece (x ++ y)) (sym same) ∙ t.again y b
 
 -- a piece that counts no bracket, or has no end
 abbrev pub IsUncounted : Piece → Type 0
