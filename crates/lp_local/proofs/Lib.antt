@@ -8,4 +8,5 @@ pub mod Codes
 pub mod Back
 pub mod Tables
 pub mod Broken
+pub mod Near
 pub mod Examples

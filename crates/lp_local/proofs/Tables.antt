@@ -390,6 +390,10 @@ reads_within (suc m) (suc n) g a b t u h lt agree = elim (split_first a) [
       (subst (λ (y : List ℕ). entries_within (suc m) g y ≡ Some t) s.a_is h) (subst (λ (y : List ℕ). lines_before y t.1 < suc n) s.a_is lt)))
 ]
 
+pub entries_left : (text : List ℕ) (numbers : List ℤ) (rest : List ℕ) → IsUtf8 text → entries text ≡ Some (numbers, rest) → Left text rest
+unfolding entries
+entries_left text numbers rest u h = within_left (length text) true text (numbers, rest) u h
+
 -- the entries in front of a text, where the first n lines have the line on which they end
 pub record EntriesShared (n : ℕ) (a b : List ℕ) (numbers : List ℤ) (rest : List ℕ) : Type 0 where
   pub utf8 : IsUtf8 rest
@@ -400,6 +404,6 @@ pub record EntriesShared (n : ℕ) (a b : List ℕ) (numbers : List ℤ) (rest :
 pub entries_shared : (n : ℕ) (a b : List ℕ) (numbers : List ℤ) (rest : List ℕ) → IsUtf8 a → entries a ≡ Some (numbers, rest) → lines_before a rest < n → Agree n a b → EntriesShared n a b numbers rest
 unfolding entries
 entries_shared n a b numbers rest u h lt agree =
-    let l : Left a rest = within_left (length a) true a (numbers, rest) u h in
+    let l : Left a rest = entries_left a numbers rest u h in
     let r : Reads (n - lines_before a rest) true b (numbers, rest) = reads_within (length a) n true a b (numbers, rest) u h lt agree in
     record { utf8 = l.utf8; other = r.other; reads = r.reads (length b) (omega arith); agree = r.agree }
