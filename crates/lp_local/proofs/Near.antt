@@ -203,14 +203,14 @@ near_use n text left other used rest near e stops ends lt =
       near = record { is_left = left_again text left rest near.is_left r; utf8 = w.utf8; agree = near_agree n text left rest s.other near.is_left r s.agree };
     }
 
--- none, where the next line that counts doesn't begin one
-pub near_no_use_line : (n : ℕ) (text left other : List ℕ) → Near n text left other → 0 < length (settled left) → lines_before text (settled left) < n → starts_with eqb (settled left) (codes "use ") ≡ starts_with eqb (settled other) (codes "use ")
-near_no_use_line n text left other near some lt =
+-- the next line that counts begins one in both texts, or in none
+pub near_begins_use : (n : ℕ) (text left other : List ℕ) → Near n text left other → 0 < length (settled left) → lines_before text (settled left) < n → starts_with eqb (settled left) (codes "use ") ≡ starts_with eqb (settled other) (codes "use ")
+near_begins_use n text left other near some lt =
     let l : NearLine n text left other = near_line n text left other near some lt in
     let next : n - lines_before text (settled left) ≡ suc (n - lines_before text (settled left) - 1) = omega (arith, lt) in
     starts_shared (n - lines_before text (settled left) - 1) (settled left) (settled other) (codes "use ") refl (subst (λ i. Agree i (settled left) (settled other)) next l.near.agree)
 
--- and where its cut stops elsewhere, or isn't at the end of its line
+-- a use of the other text stands in this one too, where its cut stops
 pub near_use_back : (n : ℕ) (text left other x y used behind : List ℕ) → Near n text left other → settled left ≡ codes "use " ++ (x ++ y) → IsUtf8 y → StopsAt (chars (x ++ y)) (chars y) → lines_before text y < n →
     settled other ≡ codes "use " ++ (used ++ (codes ";" ++ behind)) → StopsAt (chars (used ++ (codes ";" ++ behind))) (chars (codes ";" ++ behind)) → is_line_end behind ≡ true → UseBack x y used
 near_use_back n text left other x y used behind near e u stops lt f there ends =
