@@ -1,5 +1,5 @@
 -- Texts that share their first lines with the text of a reader.
-use Rattle.std.proofs.Common.{◌≡◌, ℕ, suc, ◌+◌, ◌-◌, ◌==◌, ◌≤◌, ◌<◌, ◌^◌, min, ◌⊎◌, inl, inr, Bool, false, true, ℤ, List, [], ◌∷◌, ◌++◌, length, Some, take, drop, codes, refl, sym, ap, ◌∙◌, arith, eqb, ltb, subst, append_assoc, append-nil, length-append, length-drop, take-append-drop}
+use Rattle.std.proofs.Common.{◌≡◌, ℕ, suc, ◌+◌, ◌-◌, ◌==◌, ◌≤◌, ◌<◌, ◌^◌, min, ◌⊎◌, inl, inr, Bool, false, true, ℤ, List, [], ◌∷◌, ◌++◌, length, Some, None, take, drop, codes, refl, sym, ap, ◌∙◌, arith, eqb, ltb, subst, append_assoc, append-nil, length-append, length-drop, take-append-drop}
 use Rattle.std.specs.Bool.{Decides}
 use Rattle.std.specs.List.{starts_with}
 use Rattle.std.specs.Str.{IsUtf8, IsCharBoundary, chars, encode_utf8_all}
@@ -18,10 +18,14 @@ use Rattle.lp_spelling.specs.declared.cursor.Cursor.{Cursor}
 use Rattle.lp_spelling.proofs.Reading.{starts_again, starts_ok}
 use Rattle.lp_local.specs.Agreeing.{first_lines, Agree, lines_before}
 use Rattle.lp_local.specs.Beginning.{is_line_end}
-use Rattle.lp_local.proofs.Agreeing.{feeds_text, feeds-append, agree_back, agree_fewer, agree_behind, agree_past, lines_by_line, Shared, shared_front}
+use Rattle.lp_local.specs.Breaking.{IsBroken}
+use Rattle.lp_local.proofs.Agreeing.{feeds_text, feeds-append, agree_back, agree_fewer, agree_behind, agree_front, agree_past, lines_by_line, Shared, shared_front}
+use Rattle.lp_local.proofs.Broken.{broken_left, entries_broken}
 use Rattle.lp_local.proofs.Codes.{cut_shared, code_shared, line_end_shared, use_shared}
+use Rattle.lp_local.proofs.Numbers.{number_told}
 use Rattle.lp_local.proofs.Piecing.{piece_told}
 use Rattle.lp_local.proofs.Settling.{Left, settled_left, behind_byte, from_byte, SettledShared, settled_shared}
+use Rattle.lp_local.proofs.Tables.{entries_left, entries_shared}
 use Rattle.lp_program.specs.Begins.{Lines}
 use Rattle.lp_program.specs.CodeReading.{IsUse, IsCode, without_feed}
 use Rattle.lp_program.specs.Looking.{AreCounted, OfLines}
@@ -30,6 +34,7 @@ use Rattle.lp_program.specs.Taking.{IsCutLine}
 use Rattle.lp_program.specs.Telling.{Told, TellsLine, NotTold}
 use Rattle.lp_program.proofs.Cuts.{closed_text}
 use Rattle.lp_program.proofs.Existing.{behind_utf8, lines_exist, settled_fine}
+use Rattle.lp_program.proofs.Sizes.{entries_sized}
 use Rattle.lp_program.proofs.Taking.{part_there}
 
 -- nothing is taken off
@@ -367,7 +372,37 @@ code_like n c next text code same is far like =
 -- a table that is there
 pub table_like : (n : ℕ) (c next : Cursor) (text : List ℕ) (numbers : List ℤ) → IsTaken c next → entries (left c) ≡ Some (numbers, left next) → next_number next ≤ n → Like n c text →
     (rest : List ℕ) × (entries text ≡ Some (numbers, rest)) × Moves n c next text rest
-table_like n c next text numbers same is far like = ?
+table_like n c next text numbers same is far like =
+    let l = entries_left (left c) numbers (left next) (left_utf8 c like.whole) is in
+    let b = taken_before n c next same like.whole like.counted far l.front l.whole in
+    let lines = b.0 in
+    let parts = b.1 in
+    let fewer : lines_before (left c) (left next) < n - feeds (front_of c) = omega (arith, lines, parts) in
+    let near = like_left n c text (omega (arith, lines)) like in
+    let z = entries_shared (n - feeds (front_of c)) (left c) text numbers (left next) (left_utf8 c like.whole) is fewer near in
+    let size = entries_sized (n - feeds (front_of c)) (left c) text numbers numbers (left next) z.other (left_utf8 c like.whole) fewer near is z.reads in
+    let front = ap feeds (front_next c next l.front same l.whole) ∙ feeds-append (front_of c) l.front in
+    let all : n - feeds (front_of c) - lines_before (left c) (left next) ≡ n - feeds (front_of next) = omega (arith, parts, front) in
+    let whole : Agree n (front_of next ++ left next) (front_of next ++ z.other)
+    = agree_front n (front_of next) (left next) z.other (omega (arith, lines, front)) (subst (λ k. Agree k (left next) z.other) all z.agree) in
+    let there : Like n next z.other = record {
+      is_text = (entries_left text numbers z.other like.is_text z.reads).utf8;
+      whole = subst IsUtf8 (sym same) like.whole;
+      sized = omega (arith, ap length same, like.sized);
+      counted = omega (arith, ap feeds same, like.counted);
+      same = sym whole ∙ ap (first_lines n) (front_whole next);
+    } in
+    (z.other, z.reads, record { like = there; size = omega (arith, size) })
+
+-- a table that is broken where the line was looked at
+pub no_table_like : (n place : ℕ) (c : Cursor) (text : List ℕ) → IsBroken true (left c) (drop place c.text.now) → number_at place c.text.now ≤ n → Like n c text → entries text ≡ None
+no_table_like n place c text broken le like =
+    let lt = number_told n place c.text.now like.counted le in
+    let l = broken_left true (left c) (drop place c.text.now) (left_utf8 c like.whole) broken in
+    let one = ap feeds (front_whole c) in
+    let two = feeds-append (front_of c) (left c) in
+    let three = ap feeds l.whole ∙ feeds-append l.front (drop place c.text.now) in
+    entries_broken (n - feeds (front_of c)) (left c) text (drop place c.text.now) (left_utf8 c like.whole) broken (omega (arith, lt, one, two, three)) (like_left n c text (omega (arith, lt, one, two, three)) like)
 
 -- where a cut stops is behind the place from which it is made
 splits_left : (cs rest : List ℕ) (ks : List _) → Splits cs ks rest → length rest ≤ length cs

@@ -1,7 +1,8 @@
 -- What is taken off a text at a cursor.
-use Rattle.std.specs.Prelude.{◌≡◌, ℕ, List, ◌⊎◌, Option, Some, None}
+use Rattle.std.specs.Prelude.{◌≡◌, ℕ, true, List, ◌⊎◌, drop, Option, Some, None}
 use Rattle.std.specs.Str.{IsUtf8}
 use Rattle.lp_tok.specs.Cut.{EndsCut}
+use Rattle.lp_local.specs.Breaking.{IsBroken}
 use Rattle.lp_spelling.specs.Cursors.{left, IsTaken}
 use Rattle.lp_spelling.specs.LineNumbers.{number_at, past_last}
 use Rattle.lp_spelling.specs.TableReading.{entries}
@@ -10,10 +11,10 @@ use Rattle.lp_program.specs.declared.read.taking.Taken.{Taken}
 use Rattle.lp_program.specs.declared.read.taking.TakenTable.{TakenTable}
 use Rattle.lp_program.specs.declared.read.taking.TakenTable.TheVariants as found
 
--- what the code answers of a table at a cursor
+-- what the code answers of a table at a cursor: the table, or the place at which it is broken
 abbrev pub IsTakenTable : Cursor → TakenTable → Type 0
 IsTakenTable old (found.Whole numbers new) = IsTaken old new × (entries (left old) ≡ Some (numbers.items, left new))
-IsTakenTable old (found.Broken place) = entries (left old) ≡ None
+IsTakenTable old (found.Broken place) = (entries (left old) ≡ None) × IsBroken true (left old) (drop place old.text.now)
 
 -- what the code answers of a text of its own at a cursor: it and what is left, or that none is there behind which a character begins
 abbrev pub IsTakenText : (List ℕ → List ℕ → Type 0) → Option Taken → Type 0

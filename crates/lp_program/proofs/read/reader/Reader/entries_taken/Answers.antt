@@ -1,7 +1,7 @@
-use Rattle.std.proofs.Common.{Some, refl, ap, sym, ◌∙◌, rules}
+use Rattle.std.proofs.Common.{Some, arith, refl, ap, sym, ◌∙◌, rules}
 use Rattle.lp_spelling.specs.Cursors.{left}
 use Rattle.lp_program.proofs.Growing.{grows_table}
-use Rattle.lp_program.proofs.Nearby.{table_like}
+use Rattle.lp_program.proofs.Nearby.{no_table_like, table_like}
 use Rattle.lp_program.proofs.read.reader.Reader.entries_taken.Goals as goal
 
 pub returns-in-Whole : goal.returns-in-Whole
@@ -18,4 +18,8 @@ returns-in-Whole c =
     }
 
 pub returns-in-Broken-clause-tells : goal.returns-in-Broken-clause-tells
-returns-in-Broken-clause-tells c = ?
+returns-in-Broken-clause-tells c = λ n le far text like new rest t.
+    let taken = rw c.in-Broken.is at c.in_ok-taken.ensures in
+    let none = no_table_like n c.in-Broken.place c.args.self.now.cursor text taken.1 (omega (arith, c.line_from.ensures, far)) like in
+    let read = t.reads in
+    cc
