@@ -45,7 +45,7 @@ extends_same a b s = record { prefix_is = s.prefix_is; more = []; entries_are = 
 
 -- a reader that is back at a place, with the parts that it had there
 pub same_then : (a b c : Reader) → SamePlace a b → SamePlace b c → SamePlace a c
-same_then a b c f g = record { prefix_is = g.prefix_is ∙ f.prefix_is; cursor_is = g.cursor_is ∙ f.cursor_is; entries_are = g.entries_are ∙ f.entries_are }
+same_then a b c f g = record { prefix_is = g.prefix_is ∙ f.prefix_is; cursor_is = g.cursor_is ∙ f.cursor_is; looked = omega (arith, f.looked, g.looked); entries_are = g.entries_are ∙ f.entries_are }
 
 -- nothing is there, and nothing has to be; or what has to be there isn't
 pub brings_none : (may : List Part → Type 0) (a b : Reader) → may [] → SamePlace a b → Brings may a true b
@@ -69,7 +69,7 @@ brings_as may other a true b f x = record { extends = x.extends; adds = record {
 
 -- a step that has nothing below it, or nothing yet
 pub none_below : (s t : Step) (r : Reader) → s ≡ t → may_have t [] ≡ true → Brings (MayHave s) r true r
-none_below s t r e h = brings_none (MayHave s) r r (subst (λ u. may_have u [] ≡ true) (sym e) h) (record { prefix_is = refl; cursor_is = refl; entries_are = refl })
+none_below s t r e h = brings_none (MayHave s) r r (subst (λ u. may_have u [] ≡ true) (sym e) h) (record { prefix_is = refl; cursor_is = refl; looked = omega arith; entries_are = refl })
 
 -- a reader that was read again
 pub reread_yes : (may : List Part → Type 0) (a : Reader) (read : Bool) (b : Reader) → read ≡ true → Reread may a read b → Brings may a true b
@@ -199,15 +199,15 @@ pub own_as : (prefix : List ℕ) (g h : Growing) (count : ℕ) (s t : Step) (pie
 own_as prefix g h count s t pieces text rest e x = subst (λ u. OwnTaken prefix g h count (u, pieces) text rest) (sym e) x
 
 -- what a step itself takes changes no part
-pub extends_kept : (old new : Reader) → new ≡ record old { cursor = new.cursor; worst = new.worst } → Extends old new
+pub extends_kept : (old new : Reader) → new ≡ record old { cursor = new.cursor; looked = new.looked } → Extends old new
 extends_kept old new e = record { prefix_is = ap (λ r. r.prefix.now) e; more = []; entries_are = ap (λ r. r.entries.items) e ∙ sym (append-nil old.entries.items) }
 
 -- a step that isn't there
-pub step_not : (at : ℕ) (s : template.Line) (g h : Growing) (a b : Reader) → b ≡ record a { cursor = b.cursor; worst = b.worst } → StepBrings at s g h a false b
+pub step_not : (at : ℕ) (s : template.Line) (g h : Growing) (a b : Reader) → b ≡ record a { cursor = b.cursor; looked = b.looked } → StepBrings at s g h a false b
 step_not at s g h a b e = record { extends = extends_kept a b e; adds = tt }
 
 -- a step, and what it has below
-pub step_brings : (at : ℕ) (s : template.Line) (g h : Growing) (a b : Reader) (read : Bool) (c : Reader) → b ≡ record a { cursor = b.cursor; worst = b.worst } →
+pub step_brings : (at : ℕ) (s : template.Line) (g h : Growing) (a b : Reader) (read : Bool) (c : Reader) → b ≡ record a { cursor = b.cursor; looked = b.looked } →
     OwnTaken a.prefix.now g h (kids at a) s (left a.cursor) (left b.cursor) → Brings (MayHave s.0) b read c → StepBrings at s g h a read c
 step_brings at s g h a b false c e own x = record { extends = extends_then a b c (extends_kept a b e) x.extends; adds = tt }
 step_brings at s g h a b true c e own x =
@@ -382,7 +382,7 @@ one_tree_of (tree c below bare) p h = (c, below, refl, (let e : c.part ≡ p = c
 one_tree_of (tree c below (tree d under after)) p h = cc h
 
 -- a whole program, and nothing is left that counts
-pub whole_read : (old new last : Reader) → Brings (IsPart part.Program) old true new → last ≡ record new { worst = last.worst } → settled (left new.cursor) ≡ [] → WholeRead old last
+pub whole_read : (old new last : Reader) → Brings (IsPart part.Program) old true new → last ≡ record new { looked = last.looked } → settled (left new.cursor) ≡ [] → WholeRead old last
 whole_read old new last x kept nothing = record {
   prefix_is = ap (λ r. r.prefix.now) kept ∙ x.extends.prefix_is;
   rest = left new.cursor;

@@ -52,7 +52,7 @@ none_utf8 = ([], (refl, refl))
 end_boundary : (t : List ℕ) → IsCharBoundary t (line_len t)
 end_boundary t = let e : 0 + line_len t ≡ line_len t = omega arith in subst (λ i. IsCharBoundary t i) e (line_boundary t 0 (omega arith))
 
-behind_utf8 : (t : List ℕ) → IsUtf8 t → IsUtf8 (behind_line t)
+pub behind_utf8 : (t : List ℕ) → IsUtf8 t → IsUtf8 (behind_line t)
 behind_utf8 t u = elim (cases_lt (line_len t) (length t)) [
   | inl lt ↦
       let e : 0 + line_len t + 1 ≡ line_len t + 1 = omega arith in
@@ -88,7 +88,7 @@ within_fine (suc n) (b ∷ t) u =
       | inr z ↦ subst (λ (x : List ℕ). IsFine line x) (sym (cond-false (is_skipped (trim_start (front_line line))) _ _ z)) (shown_fine line u)
     ]
 
-settled_fine : (t : List ℕ) → IsUtf8 t → IsFine t (settled t)
+pub settled_fine : (t : List ℕ) → IsUtf8 t → IsFine t (settled t)
 unfolding settled
 settled_fine t u = within_fine (length t) t u
 

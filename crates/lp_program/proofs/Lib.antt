@@ -17,6 +17,7 @@ pub mod Once
 pub mod Telling
 pub mod Prefixes
 pub mod Settling
+pub mod Sizes
 pub mod Parameters
 pub mod Answering
 pub mod Chosen
@@ -24,6 +25,7 @@ pub mod Existing
 pub mod Found
 pub mod Held
 pub mod Many
+pub mod Nearby
 pub mod Opened
 pub mod Steps
 pub mod Whole

@@ -1,5 +1,5 @@
 -- A reader that has looked at its place, and what it sees there.
-use Rattle.std.proofs.Common.{◌≡◌, ℕ, zero, suc, ◌<◌, Bool, true, false, ◌||◌, List, [], ◌∷◌, length, get_or, refl, sym, ap, ◌∙◌, arith, subst}
+use Rattle.std.proofs.Common.{◌≡◌, ℕ, zero, suc, ◌<◌, ◌≤◌, Bool, true, false, ◌||◌, List, [], ◌∷◌, length, get_or, refl, sym, ap, ◌∙◌, arith, subst}
 use Rattle.std.specs.List.{list_any}
 use Rattle.lp_form.specs.Classes.{members_of}
 use Rattle.lp_form.specs.contracts.part.PartPartialEq.TheImpl as equality
@@ -29,8 +29,8 @@ member_at class ps i p e lt at =
     ap (list_any (λ m. (equality.ghosts).eq m p)) (sym e) ∙ any_at (λ m. (equality.ghosts).eq m p) ps i p lt same
 
 -- looking moves no reader
-pub same_place : (old new : Reader) → new ≡ record old { worst = new.worst } → SamePlace old new
-same_place old new e = record { prefix_is = ap (λ r. r.prefix.now) e; cursor_is = ap (λ r. r.cursor) e; entries_are = ap (λ r. r.entries.items) e }
+pub same_place : (old new : Reader) → new ≡ record old { looked = new.looked } → old.looked ≤ new.looked → SamePlace old new
+same_place old new e le = record { prefix_is = ap (λ r. r.prefix.now) e; cursor_is = ap (λ r. r.cursor) e; looked = le; entries_are = ap (λ r. r.entries.items) e }
 
 -- the bodies of actions
 pub user_body : is_member class.ActionBody part.UserBody ≡ true

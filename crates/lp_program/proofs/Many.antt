@@ -1,26 +1,26 @@
 -- A reader that reads as many parts, or pairs, as the lines in front begin.
 use Rattle.std.proofs.Common.{◌≡◌, ℕ, ◌<◌, ◌≤◌, Bool, true, false, List, ◌++◌, length, Option, Some, None, sym, ◌∙◌, subst}
-use Rattle.std.specs.Str.{IsUtf8}
 use Rattle.lp_form.specs.declared.class.Class.{Class}
 use Rattle.lp_form.specs.declared.part.Part.{Part}
 use Rattle.lp_spelling.specs.Cursors.{left}
 use Rattle.lp_program.specs.declared.read.reader.Reader.{Reader}
 use Rattle.lp_program.specs.Adding.{SamePlace}
-use Rattle.lp_program.specs.Answering.{AddsRead, AnswersTrees, held}
-use Rattle.lp_program.specs.Choosing.{Reading, IsUnread, contents, SeenLines, AnyChosen, PairChosen, PartChosen}
+use Rattle.lp_program.specs.Answering.{AddsRead, NoneRead, AnswersTrees, held}
+use Rattle.lp_program.specs.Choosing.{Reading, contents, SeenLines, AnyChosen, PairChosen, PartChosen}
 use Rattle.lp_program.specs.Looking.{OfLines, Picks}
+use Rattle.lp_program.specs.Nearby.{OfLike}
 use Rattle.lp_program.specs.Trees.{Content, Forest}
 use Rattle.lp_program.specs.Trees.Forest.{bare}
 use Rattle.lp_program.proofs.Chosen.{IsOnce, part_once, pair_once}
-use Rattle.lp_program.proofs.Found.{AnyReached, any_goes, any_stops, any_stays, any_ends, seen_lines}
+use Rattle.lp_program.proofs.Found.{AnyReached, any_goes, any_stops, any_stays, any_ends, seen_like}
 use Rattle.lp_program.proofs.Held.{held_more}
 
 -- what a reader picks, seen from where it began
-pub seen_from : (depth : ℕ) (class : Class) (r : Option Part) (old a b : Reader) → a.prefix.now ≡ old.prefix.now → SamePlace a b → IsUtf8 (left a.cursor) → OfLines (left a.cursor) (Picks depth a.prefix.now class r) →
-    SeenLines (left b.cursor) (Picks depth old.prefix.now class r)
-seen_from depth class r old a b e s u all =
-    subst (λ k. SeenLines (left k) (Picks depth old.prefix.now class r)) (sym s.cursor_is)
-    (subst (λ (y : List ℕ). SeenLines (left a.cursor) (Picks depth y class r)) e (seen_lines (Picks depth a.prefix.now class r) (left a.cursor) u all))
+pub seen_from : (depth : ℕ) (class : Class) (r : Option Part) (old a b : Reader) → a.prefix.now ≡ old.prefix.now → SamePlace a b → OfLike b.looked a.cursor (λ text. OfLines text (Picks depth a.prefix.now class r)) →
+    OfLike b.looked b.cursor (λ text. SeenLines text (Picks depth old.prefix.now class r))
+seen_from depth class r old a b e s all =
+    subst (λ k. OfLike b.looked k (λ text. SeenLines text (Picks depth old.prefix.now class r))) (sym s.cursor_is)
+    (subst (λ (y : List ℕ). OfLike b.looked a.cursor (λ text. SeenLines text (Picks depth y class r))) e (seen_like (Picks depth a.prefix.now class r) b.looked a.cursor all))
 
 -- what is read each time: a part, or a pair
 abbrev pub EachPart : ℕ → List ℕ → Part → Forest → Reading
@@ -47,26 +47,26 @@ part_from depth p old a b read c e s x = subst (λ (y : List ℕ). AnswersTrees 
 
 -- a part more, or none, or one that takes nothing off the text; or no more are begun
 pub parts_goes : (depth : ℕ) (class : Class) (p : Part) (old a b : Reader) (read : Bool) (c : Reader) → a.prefix.now ≡ old.prefix.now → PartsReached depth class old a → SamePlace a b →
-    SeenLines (left b.cursor) (Picks depth old.prefix.now class (Some p)) → read ≡ true → AnswersTrees (PartChosen depth b.prefix.now p) b read c → length (left c.cursor) < length (left b.cursor) → PartsReached depth class old c
+    OfLike b.looked b.cursor (λ text. SeenLines text (Picks depth old.prefix.now class (Some p))) → read ≡ true → AnswersTrees (PartChosen depth b.prefix.now p) b read c → length (left c.cursor) < length (left b.cursor) → PartsReached depth class old c
 parts_goes depth class p old a b read c e x s seen all y less =
     any_goes depth old.prefix.now (EachPart depth old.prefix.now) class p old a b read c (parts_once depth old.prefix.now) x s seen all (part_from depth p old a b read c e s y) less
 
 pub parts_stops : (depth : ℕ) (class : Class) (p : Part) (old a b : Reader) (read : Bool) (c : Reader) → a.prefix.now ≡ old.prefix.now → PartsReached depth class old a → SamePlace a b →
-    SeenLines (left b.cursor) (Picks depth old.prefix.now class (Some p)) → read ≡ false → AnswersTrees (PartChosen depth b.prefix.now p) b read c →
-    IsUnread (AnyChosen depth old.prefix.now (EachPart depth old.prefix.now) class bare) (left old.cursor)
+    OfLike b.looked b.cursor (λ text. SeenLines text (Picks depth old.prefix.now class (Some p))) → read ≡ false → AnswersTrees (PartChosen depth b.prefix.now p) b read c →
+    NoneRead (AnyChosen depth old.prefix.now (EachPart depth old.prefix.now) class bare) old c
 parts_stops depth class p old a b read c e x s seen none y =
     any_stops depth old.prefix.now (EachPart depth old.prefix.now) class p old a b read c x s seen none (part_from depth p old a b read c e s y)
 
 pub parts_stays : (depth : ℕ) (class : Class) (p : Part) (old a b : Reader) (read : Bool) (c : Reader) → a.prefix.now ≡ old.prefix.now → PartsReached depth class old a → SamePlace a b →
-    SeenLines (left b.cursor) (Picks depth old.prefix.now class (Some p)) → read ≡ true → AnswersTrees (PartChosen depth b.prefix.now p) b read c → length (left b.cursor) ≤ length (left c.cursor) →
-    IsUnread (AnyChosen depth old.prefix.now (EachPart depth old.prefix.now) class bare) (left old.cursor)
+    OfLike b.looked b.cursor (λ text. SeenLines text (Picks depth old.prefix.now class (Some p))) → read ≡ true → AnswersTrees (PartChosen depth b.prefix.now p) b read c → length (left b.cursor) ≤ length (left c.cursor) →
+    NoneRead (AnyChosen depth old.prefix.now (EachPart depth old.prefix.now) class bare) old c
 parts_stays depth class p old a b read c e x s seen all y le =
     any_stays depth old.prefix.now (EachPart depth old.prefix.now) class p old a b read c (parts_once depth old.prefix.now) x s seen all (part_from depth p old a b read c e s y) le
 
-pub parts_ends : (depth : ℕ) (class : Class) (old a b : Reader) → PartsReached depth class old a → SamePlace a b → SeenLines (left b.cursor) (Picks depth old.prefix.now class None) →
+pub parts_ends : (depth : ℕ) (class : Class) (old a b : Reader) → PartsReached depth class old a → SamePlace a b → OfLike b.looked b.cursor (λ text. SeenLines text (Picks depth old.prefix.now class None)) →
     AddsRead (AnyChosen depth old.prefix.now (EachPart depth old.prefix.now) class bare) old b
 parts_ends depth class old a b x s seen =
-    any_ends depth old.prefix.now (EachPart depth old.prefix.now) class old a b x s (subst (λ k. SeenLines (left k) (Picks depth old.prefix.now class None)) s.cursor_is seen)
+    any_ends depth old.prefix.now (EachPart depth old.prefix.now) class old a b x s (subst (λ k. OfLike b.looked k (λ text. SeenLines text (Picks depth old.prefix.now class None))) s.cursor_is seen)
 
 -- the same of pairs
 pair_from : (depth at : ℕ) (first second : Class) (p : Part) (old a b : Reader) (read : Bool) (c : Reader) → at < length old.entries.items → a.prefix.now ≡ old.prefix.now → (x : PairsReached depth at first second old a) → SamePlace a b →
@@ -77,26 +77,26 @@ pair_from depth at first second p old a b read c lt e x s y =
     (subst (λ (q : List ℕ). AnswersTrees (PairChosen depth q (PartChosen depth q) (held at b) second p) b read c) (s.prefix_is ∙ e) y)
 
 pub pairs_goes : (depth at : ℕ) (first second : Class) (p : Part) (old a b : Reader) (read : Bool) (c : Reader) → at < length old.entries.items → a.prefix.now ≡ old.prefix.now → PairsReached depth at first second old a →
-    SamePlace a b → SeenLines (left b.cursor) (Picks depth old.prefix.now first (Some p)) → read ≡ true → AnswersTrees (PairChosen depth b.prefix.now (PartChosen depth b.prefix.now) (held at b) second p) b read c →
+    SamePlace a b → OfLike b.looked b.cursor (λ text. SeenLines text (Picks depth old.prefix.now first (Some p))) → read ≡ true → AnswersTrees (PairChosen depth b.prefix.now (PartChosen depth b.prefix.now) (held at b) second p) b read c →
     length (left c.cursor) < length (left b.cursor) → PairsReached depth at first second old c
 pairs_goes depth at first second p old a b read c lt e x s seen all y less =
     any_goes depth old.prefix.now (EachPair depth old.prefix.now (held at old) second) first p old a b read c (pairs_once depth old.prefix.now (held at old) second) x s seen all
     (pair_from depth at first second p old a b read c lt e x s y) less
 
 pub pairs_stops : (depth at : ℕ) (first second : Class) (p : Part) (old a b : Reader) (read : Bool) (c : Reader) → at < length old.entries.items → a.prefix.now ≡ old.prefix.now → PairsReached depth at first second old a →
-    SamePlace a b → SeenLines (left b.cursor) (Picks depth old.prefix.now first (Some p)) → read ≡ false → AnswersTrees (PairChosen depth b.prefix.now (PartChosen depth b.prefix.now) (held at b) second p) b read c →
-    IsUnread (AnyChosen depth old.prefix.now (EachPair depth old.prefix.now (held at old) second) first bare) (left old.cursor)
+    SamePlace a b → OfLike b.looked b.cursor (λ text. SeenLines text (Picks depth old.prefix.now first (Some p))) → read ≡ false → AnswersTrees (PairChosen depth b.prefix.now (PartChosen depth b.prefix.now) (held at b) second p) b read c →
+    NoneRead (AnyChosen depth old.prefix.now (EachPair depth old.prefix.now (held at old) second) first bare) old c
 pairs_stops depth at first second p old a b read c lt e x s seen none y =
     any_stops depth old.prefix.now (EachPair depth old.prefix.now (held at old) second) first p old a b read c x s seen none (pair_from depth at first second p old a b read c lt e x s y)
 
 pub pairs_stays : (depth at : ℕ) (first second : Class) (p : Part) (old a b : Reader) (read : Bool) (c : Reader) → at < length old.entries.items → a.prefix.now ≡ old.prefix.now → PairsReached depth at first second old a →
-    SamePlace a b → SeenLines (left b.cursor) (Picks depth old.prefix.now first (Some p)) → read ≡ true → AnswersTrees (PairChosen depth b.prefix.now (PartChosen depth b.prefix.now) (held at b) second p) b read c →
-    length (left b.cursor) ≤ length (left c.cursor) → IsUnread (AnyChosen depth old.prefix.now (EachPair depth old.prefix.now (held at old) second) first bare) (left old.cursor)
+    SamePlace a b → OfLike b.looked b.cursor (λ text. SeenLines text (Picks depth old.prefix.now first (Some p))) → read ≡ true → AnswersTrees (PairChosen depth b.prefix.now (PartChosen depth b.prefix.now) (held at b) second p) b read c →
+    length (left b.cursor) ≤ length (left c.cursor) → NoneRead (AnyChosen depth old.prefix.now (EachPair depth old.prefix.now (held at old) second) first bare) old c
 pairs_stays depth at first second p old a b read c lt e x s seen all y le =
     any_stays depth old.prefix.now (EachPair depth old.prefix.now (held at old) second) first p old a b read c (pairs_once depth old.prefix.now (held at old) second) x s seen all
     (pair_from depth at first second p old a b read c lt e x s y) le
 
-pub pairs_ends : (depth at : ℕ) (first second : Class) (old a b : Reader) → PairsReached depth at first second old a → SamePlace a b → SeenLines (left b.cursor) (Picks depth old.prefix.now first None) →
+pub pairs_ends : (depth at : ℕ) (first second : Class) (old a b : Reader) → PairsReached depth at first second old a → SamePlace a b → OfLike b.looked b.cursor (λ text. SeenLines text (Picks depth old.prefix.now first None)) →
     AddsRead (AnyChosen depth old.prefix.now (EachPair depth old.prefix.now (held at old) second) first bare) old b
 pairs_ends depth at first second old a b x s seen =
-    any_ends depth old.prefix.now (EachPair depth old.prefix.now (held at old) second) first old a b x s (subst (λ k. SeenLines (left k) (Picks depth old.prefix.now first None)) s.cursor_is seen)
+    any_ends depth old.prefix.now (EachPair depth old.prefix.now (held at old) second) first old a b x s (subst (λ k. OfLike b.looked k (λ text. SeenLines text (Picks depth old.prefix.now first None))) s.cursor_is seen)

@@ -1,15 +1,17 @@
 -- The prefix that a text shows: it is one, and what a reader has left of a text shows what the text shows.
-use Rattle.std.proofs.Common.{◌≡◌, ℕ, suc, ◌+◌, ◌≤◌, ◌<◌, ◌==◌, Bool, true, false, cond, Option, Some, None, Bor, MatchOption, IfSome, List, [], ◌∷◌, ◌++◌, length, codes, drop, take, refl, sym, ap, ◌∙◌, arith, eqb, ltb, append_assoc, length-append, length-drop, subst}
+use Rattle.std.proofs.Common.{◌≡◌, ℕ, suc, ◌+◌, ◌^◌, ◌≤◌, ◌<◌, ◌==◌, Bool, true, false, cond, Option, Some, None, Bor, MatchOption, IfSome, inl, inr, List, [], ◌∷◌, ◌++◌, length, codes, drop, take, refl, sym, ap, ◌∙◌, arith, eqb, ltb, append_assoc, length-append, length-drop, subst}
 use Rattle.std.specs.List.{starts_with}
-use Rattle.std.specs.Str.{IsUtf8}
-use Rattle.std.proofs.lemmas.Bool.{and_parts, eqb-true, false_from_ne_true, false≢true}
+use Rattle.std.specs.Str.{IsUtf8, chars, trim_start}
+use Rattle.std.proofs.lemmas.Bool.{and_parts, cases_Bool, cases_lt, eqb-true, false_from_ne_true, false≢true}
 use Rattle.std.proofs.lemmas.List.{append_cancel_left, append_cancel_right, nil_from_length}
+use Rattle.std.proofs.lemmas.List.Sums.{count_by-le-length}
 use Rattle.std.proofs.lemmas.Str.{IsUtf8-drop}
 use Rattle.lp_texts.specs.Identifiers.{is_identifier}
-use Rattle.lp_spelling.specs.Counting.{is_text, settled, front_line, behind_line as after_line, line_len}
+use Rattle.lp_spelling.specs.Counting.{is_text, is_skipped, feeds, settled, front_line, behind_line as after_line, line_len}
 use Rattle.lp_spelling.specs.Cursors.{left}
 use Rattle.lp_spelling.specs.declared.cursor.Cursor.{Cursor}
-use Rattle.lp_spelling.proofs.Counting.{settled_none}
+use Rattle.lp_local.proofs.Agreeing.{feeds_feed, feeds_text}
+use Rattle.lp_spelling.proofs.Counting.{settled_none, settled_skips}
 use Rattle.lp_spelling.proofs.Reading.{starts_again, starts_ok}
 use Rattle.lp_program.specs.CodeReading.{IsUse}
 use Rattle.lp_program.specs.Prefixes.{renaming, renamed, ShowsPrefix}
@@ -178,3 +180,26 @@ name_answered text there line rest name i None s t at e f = λ prefix x.
     shows_no_name prefix there line rest t begins (λ y same is. e y (append_cancel_left renaming name (renamed y) (sym at ∙ same)) is) (s.back prefix x)
 name_answered text there line rest name i (Some p) s t at e f =
     s.on p.now (shown there rest (subst (λ (l : List ℕ). TakesLine l there rest) (at ∙ ap (λ (x : List ℕ). renaming ++ x) e) t) f)
+
+-- in a text of line feeds alone nothing counts, and so no prefix is shown
+none_skipped : is_skipped (trim_start []) ≡ true
+unfolding trim_start chars
+none_skipped = refl
+
+only_feeds : (text : List ℕ) → feeds text ≡ length text → settled text ≡ []
+only_feeds [] e = settled_none
+only_feeds (b ∷ text) e = elim (cases_Bool (b == 10)) [
+  | inl y ↦
+      let is : b ≡ 10 = eqb-true b 10 y in
+      let count = feeds_feed b text y in
+      subst (λ (c : ℕ). settled (c ∷ text) ≡ []) (sym is) (settled_skips (10 ∷ text) (omega arith) none_skipped ∙ only_feeds text (omega (arith, count, e)))
+  | inr z ↦ (let count = feeds_text b text z in let few = count_by-le-length (λ c. c == 10) text in absurd (omega (arith, count, few, e)))
+]
+
+pub shows_counted : (prefix text : List ℕ) → length text < 2 ^ 64 → ShowsPrefix prefix text → feeds text + 1 < 2 ^ 64
+shows_counted prefix text size shows =
+    let few = count_by-le-length (λ c. c == 10) text in
+    elim (cases_lt (feeds text) (length text)) [
+      | inl lt ↦ omega (arith, lt, size)
+      | inr le ↦ absurd (shows_none prefix text (only_feeds text (omega (arith, few, le))) shows)
+    ]

@@ -1,5 +1,5 @@
 -- What is told of a part by a line, by lines of one spelling, and by a text of its own.
-use Rattle.std.proofs.Common.{◌≡◌, ℕ, suc, ◌+◌, ◌-◌, ◌<◌, ◌≤◌, ◌==◌, ◌&&◌, Bool, true, false, List, [], ◌∷◌, ◌++◌, length, Option, Some, None, Result, Ok, Err, MatchResult, refl, sym, ap, ◌∙◌, arith, subst}
+use Rattle.std.proofs.Common.{◌≡◌, ℕ, suc, ◌+◌, ◌-◌, ◌^◌, ◌<◌, ◌≤◌, ◌==◌, ◌&&◌, min, Bool, true, false, List, [], ◌∷◌, ◌++◌, length, drop, Option, Some, None, IfSome, Result, Ok, Err, MatchResult, refl, sym, ap, ◌∙◌, arith, subst}
 use Rattle.std.specs.Str.{IsUtf8}
 use Rattle.std.proofs.lemmas.Bool.{and_from, and_parts, eq-eqb, eqb-true, false≢true}
 use Rattle.std.proofs.lemmas.List.{nil_from_length}
@@ -9,11 +9,15 @@ use Rattle.lp_form.specs.declared.template.Kind.{Kind}
 use Rattle.lp_form.specs.declared.template.Step.{Step}
 use Rattle.lp_form.specs.declared.template.Step.TheVariants as step
 use Rattle.lp_spelling.specs.Counting.{settled, front_line, behind_line}
-use Rattle.lp_spelling.specs.Cursors.{left}
+use Rattle.lp_spelling.specs.Cursors.{left, IsTaken}
 use Rattle.lp_spelling.specs.declared.cursor.Cursor.{Cursor}
 use Rattle.lp_spelling.specs.LineReading.{line_at, ReadsLine}
 use Rattle.lp_program.specs.declared.read.growing.Growing.{Growing}
-use Rattle.lp_program.specs.Telling.{Told, told, TellsLine, TellsLines, TellsText, NotTold, Answers, AnswersPlace, AnswersOwn, StepTells}
+use Rattle.lp_program.specs.CodeReading.{IsUse, IsCode}
+use Rattle.lp_program.specs.Nearby.{next_number, Like, Moves, EachTaken}
+use Rattle.lp_program.specs.Taking.{IsCutLine}
+use Rattle.lp_program.specs.Telling.{Told, told, TellsLine, TellsLines, TellsText, NotTold, AnswersPlace, AnswersLines, AnswersOwn, StepTells}
+use Rattle.lp_program.proofs.Nearby.{code_like, line_like, no_code_like, no_line_like, no_use_like, use_like, moves_none, moves_then, number_grows}
 use Rattle.lp_program.proofs.Once.{line_once}
 
 -- the line in front is read, or is not; or there is none
@@ -73,6 +77,35 @@ lines_not prefix kinds pieces count i first now text there lt l not x left t =
     let y = subst (λ (k : ℕ). TellsLines k prefix kinds pieces now x there left) more (l.back x left t) in
     not y.0 y.1 y.2
 
+-- the same in each text that is like what is left at a cursor
+abbrev pub LinesOf : List ℕ → List Kind → List Piece → ℕ → ℕ → Told → Told → Cursor → Cursor → Type 0
+LinesOf prefix kinds pieces count i first now c place = (n : ℕ) → next_number place ≤ n → EachTaken n c place (LinesLeft prefix kinds pieces count i first now)
+
+-- an answer on lines of one spelling
+abbrev pub AnswersAll : List ℕ → List Kind → List Piece → ℕ → Told → Cursor → Bool → Growing → Cursor → Type 0
+AnswersAll prefix kinds pieces count first c all new place = AnswersLines c (λ text x rest. TellsLines count prefix kinds pieces first x text rest) all new place
+
+pub start_of : (prefix : List ℕ) (kinds : List Kind) (pieces : List Piece) (count : ℕ) (first : Told) (c : Cursor) → LinesOf prefix kinds pieces count 0 first first c c
+start_of prefix kinds pieces count first c n le text like = (text, lines_start prefix kinds pieces count first text, moves_none n c text like)
+
+pub on_of : (prefix : List ℕ) (kinds : List Kind) (pieces : List Piece) (count i : ℕ) (first now next : Told) (c place behind : Cursor) → i < count → IsTaken c place → LinesOf prefix kinds pieces count i first now c place →
+    IsTaken place behind → TellsLine prefix kinds pieces now next (left place) (left behind) → LinesOf prefix kinds pieces count (i + 1) first next c behind
+on_of prefix kinds pieces count i first now next c place behind lt same l taken t n le text like =
+    let grows = number_grows place behind (subst IsUtf8 (sym same) like.whole) taken t.takes.rest_is in
+    let y = l n (omega (arith, grows, le)) text like in
+    let z = line_like n place behind y.0 prefix kinds pieces now next t taken (omega (arith, grows, le)) y.2.like in
+    (z.0, lines_on prefix kinds pieces count i first now next text y.0 z.0 lt y.1 z.1, moves_then n c place behind text y.0 z.0 y.2 z.2)
+
+pub all_of : (prefix : List ℕ) (kinds : List Kind) (pieces : List Piece) (count i : ℕ) (first : Told) (now : Growing) (c place : Cursor) → count ≤ i → LinesOf prefix kinds pieces count i first (told now) c place →
+    AnswersAll prefix kinds pieces count first c true now place
+all_of prefix kinds pieces count i first now c place le l n far text like = let y = l n far text like in (y.0, lines_all prefix kinds pieces count i first (told now) text y.0 le y.1, y.2)
+
+pub not_of : (prefix : List ℕ) (kinds : List Kind) (pieces : List Piece) (count i : ℕ) (first now : Told) (new : Growing) (c place : Cursor) → i < count → LinesOf prefix kinds pieces count i first now c place →
+    NotTold (λ x rest. TellsLine prefix kinds pieces now x (left place) rest) → AnswersAll prefix kinds pieces count first c false new place
+not_of prefix kinds pieces count i first now new c place lt l none n far text like =
+    let y = l n far text like in
+    lines_not prefix kinds pieces count i first now text y.0 lt y.1 (no_line_like n place y.0 prefix kinds pieces now none far y.2.like)
+
 -- a text of its own is taken, or none is there
 pub text_told : (p : Part) (IsText : List ℕ → List ℕ → Type 0) (old new : Told) (text rest : List ℕ) → length (holes_of p) ≡ 0 → length old.holes ≡ 0 → new ≡ record old { holes = old.holes ++ text ∷ [] } →
     IsText text rest → IsUtf8 rest → TellsText p IsText old new rest
@@ -98,37 +131,73 @@ pub blank_not : (a b : ℕ) (r : Bool) → r ≡ ((a == 0) && (b == 0)) → r �
 blank_not a b r e is none first = false≢true (sym is ∙ e ∙ and_from (a == 0) (b == 0) (eq-eqb a 0 none) (eq-eqb b 0 first))
 
 -- a step, told by its kind
-pub told_as : (prefix : List ℕ) (old new : Growing) (count : ℕ) (s t : Step) (pieces : List Piece) (text : List ℕ) (r : Result Cursor ℕ) → s ≡ t →
-    AnswersOwn (StepTells prefix old count (t, pieces) text) new r → AnswersOwn (StepTells prefix old count (s, pieces) text) new r
-told_as prefix old new count s t pieces text r e x = subst (λ (u : Step). AnswersOwn (StepTells prefix old count (u, pieces) text) new r) (sym e) x
+pub told_as : (prefix : List ℕ) (old new : Growing) (count : ℕ) (s t : Step) (pieces : List Piece) (c : Cursor) (r : Result Cursor ℕ) → s ≡ t →
+    AnswersOwn c (StepTells prefix old count (t, pieces)) new r → AnswersOwn c (StepTells prefix old count (s, pieces)) new r
+told_as prefix old new count s t pieces c r e x = subst (λ (u : Step). AnswersOwn c (StepTells prefix old count (u, pieces)) new r) (sym e) x
 
 -- a step that takes nothing itself
-pub still_told : (prefix : List ℕ) (g : Growing) (count : ℕ) (s t : Step) (pieces : List Piece) (c : Cursor) → s ≡ t → StepTells prefix g count (t, pieces) (left c) (told g) (left c) →
-    StepTells prefix g count (s, pieces) (left c) (told g) (left c)
-still_told prefix g count s t pieces c e x = subst (λ (u : Step). StepTells prefix g count (u, pieces) (left c) (told g) (left c)) (sym e) x
+pub still_told : (prefix : List ℕ) (g : Growing) (count : ℕ) (s t : Step) (pieces : List Piece) (c : Cursor) → s ≡ t → ((text : List ℕ) → StepTells prefix g count (t, pieces) text (told g) text) →
+    AnswersOwn c (StepTells prefix g count (s, pieces)) g (Ok c)
+still_told prefix g count s t pieces c e x n le far text like = (text, subst (λ (u : Step). StepTells prefix g count (u, pieces) text (told g) text) (sym e) (x text), moves_none n c text like)
 
 -- a line, or lines, of a part
-place_told : (Tells : Told → List ℕ → Type 0) (new : Growing) (next : Option Cursor) (r : Result Cursor ℕ) → MatchResult r (λ place. next ≡ Some place) (λ line. next ≡ None) →
-    AnswersPlace Tells new next → AnswersOwn Tells new r
-place_told Tells new next (Ok place) m a = subst (λ (n : Option Cursor). AnswersPlace Tells new n) m a
-place_told Tells new next (Err line) m a = subst (λ (n : Option Cursor). AnswersPlace Tells new n) m a
+place_told : (prefix : List ℕ) (kinds : List Kind) (pieces : List Piece) (old : Told) (new : Growing) (c : Cursor) (next : Option Cursor) (r : Result Cursor ℕ) →
+    MatchResult r (λ place. next ≡ Some place) (λ line. next ≡ None) → IfSome next (IsTaken c) → AnswersPlace (λ x rest. TellsLine prefix kinds pieces old x (left c) rest) new next →
+    AnswersOwn c (λ text x rest. TellsLine prefix kinds pieces old x text rest) new r
+place_told prefix kinds pieces old new c next (Ok place) m same a = λ n le far text like.
+    line_like n c place text prefix kinds pieces old (told new) (subst (λ (o : Option Cursor). AnswersPlace (λ x rest. TellsLine prefix kinds pieces old x (left c) rest) new o) m a) (subst (λ (o : Option Cursor). IfSome o (IsTaken c)) m same) le like
+place_told prefix kinds pieces old new c next (Err line) m same a = λ n le far text like.
+    no_line_like n c text prefix kinds pieces old (subst (λ (o : Option Cursor). AnswersPlace (λ x rest. TellsLine prefix kinds pieces old x (left c) rest) new o) m a) le like
 
-pub own_line : (prefix pre : List ℕ) (kinds : List Kind) (old new : Growing) (count : ℕ) (s : Step) (blanks : ℕ) (pieces : List Piece) (text : List ℕ) (next : Option Cursor) (r : Result Cursor ℕ) →
-    s ≡ step.Line blanks → pre ≡ prefix → kinds ≡ holes_of old.part → MatchResult r (λ place. next ≡ Some place) (λ line. next ≡ None) →
-    AnswersPlace (λ x rest. TellsLine pre kinds pieces (told old) x text rest) new next → AnswersOwn (StepTells prefix old count (s, pieces) text) new r
-own_line prefix pre kinds old new count s blanks pieces text next r e p k m a =
-    let held : AnswersPlace (λ x rest. TellsLine prefix (holes_of old.part) pieces (told old) x text rest) new next
-    = subst (λ (y : List ℕ). AnswersPlace (λ x rest. TellsLine y (holes_of old.part) pieces (told old) x text rest) new next) p
-    (subst (λ (y : List Kind). AnswersPlace (λ x rest. TellsLine pre y pieces (told old) x text rest) new next) k a) in
-    told_as prefix old new count s (step.Line blanks) pieces text r e (place_told (λ x rest. TellsLine prefix (holes_of old.part) pieces (told old) x text rest) new next r m held)
+pub own_line : (prefix pre : List ℕ) (kinds : List Kind) (old new : Growing) (count : ℕ) (s : Step) (blanks : ℕ) (pieces : List Piece) (c : Cursor) (next : Option Cursor) (r : Result Cursor ℕ) →
+    s ≡ step.Line blanks → pre ≡ prefix → kinds ≡ holes_of old.part → MatchResult r (λ place. next ≡ Some place) (λ line. next ≡ None) → IfSome next (IsTaken c) →
+    AnswersPlace (λ x rest. TellsLine pre kinds pieces (told old) x (left c) rest) new next → AnswersOwn c (StepTells prefix old count (s, pieces)) new r
+own_line prefix pre kinds old new count s blanks pieces c next r e p k m same a =
+    let held : AnswersPlace (λ x rest. TellsLine prefix (holes_of old.part) pieces (told old) x (left c) rest) new next
+    = subst (λ (y : List ℕ). AnswersPlace (λ x rest. TellsLine y (holes_of old.part) pieces (told old) x (left c) rest) new next) p
+    (subst (λ (y : List Kind). AnswersPlace (λ x rest. TellsLine pre y pieces (told old) x (left c) rest) new next) k a) in
+    told_as prefix old new count s (step.Line blanks) pieces c r e (place_told prefix (holes_of old.part) pieces (told old) new c next r m same held)
 
-pub own_lines : (prefix pre : List ℕ) (kinds : List Kind) (old new : Growing) (count n : ℕ) (s : Step) (blanks : ℕ) (pieces : List Piece) (text rest : List ℕ) (all is : Bool) →
-    s ≡ step.Each blanks → pre ≡ prefix → kinds ≡ holes_of old.part → n ≡ count → all ≡ is →
-    Answers (λ x left. TellsLines n pre kinds pieces (told old) x text left) all (told new) rest → Answers (StepTells prefix old count (s, pieces) text) is (told new) rest
-own_lines prefix pre kinds old new count n s blanks pieces text rest all is e p k q b a =
-    let held : Answers (λ x left. TellsLines count prefix (holes_of old.part) pieces (told old) x text left) is (told new) rest
-    = subst (λ (y : Bool). Answers (λ x left. TellsLines count prefix (holes_of old.part) pieces (told old) x text left) y (told new) rest) b
-    (subst (λ (y : ℕ). Answers (λ x left. TellsLines y prefix (holes_of old.part) pieces (told old) x text left) all (told new) rest) q
-    (subst (λ (y : List ℕ). Answers (λ x left. TellsLines n y (holes_of old.part) pieces (told old) x text left) all (told new) rest) p
-    (subst (λ (y : List Kind). Answers (λ x left. TellsLines n pre y pieces (told old) x text left) all (told new) rest) k a))) in
-    subst (λ (u : Step). Answers (StepTells prefix old count (u, pieces) text) is (told new) rest) (sym e) held
+own_lines : (prefix pre : List ℕ) (kinds : List Kind) (old new : Growing) (count n : ℕ) (s : Step) (blanks : ℕ) (pieces : List Piece) (c place : Cursor) (all is : Bool) →
+    s ≡ step.Each blanks → pre ≡ prefix → kinds ≡ holes_of old.part → n ≡ count → all ≡ is → AnswersAll pre kinds pieces n (told old) c all new place → AnswersLines c (StepTells prefix old count (s, pieces)) is new place
+own_lines prefix pre kinds old new count n s blanks pieces c place all is e p k q b a =
+    let held : AnswersAll prefix (holes_of old.part) pieces count (told old) c is new place
+    = subst (λ (y : Bool). AnswersAll prefix (holes_of old.part) pieces count (told old) c y new place) b
+    (subst (λ (y : ℕ). AnswersAll prefix (holes_of old.part) pieces y (told old) c all new place) q
+    (subst (λ (y : List ℕ). AnswersAll y (holes_of old.part) pieces n (told old) c all new place) p (subst (λ (y : List Kind). AnswersAll pre y pieces n (told old) c all new place) k a))) in
+    subst (λ (u : Step). AnswersLines c (StepTells prefix old count (u, pieces)) is new place) (sym e) held
+
+pub own_lines_yes : (prefix pre : List ℕ) (kinds : List Kind) (old new : Growing) (count n : ℕ) (s : Step) (blanks : ℕ) (pieces : List Piece) (c place : Cursor) (all : Bool) →
+    s ≡ step.Each blanks → pre ≡ prefix → kinds ≡ holes_of old.part → n ≡ count → all ≡ true → AnswersAll pre kinds pieces n (told old) c all new place → AnswersOwn c (StepTells prefix old count (s, pieces)) new (Ok place)
+own_lines_yes prefix pre kinds old new count n s blanks pieces c place all e p k q b a m le far = own_lines prefix pre kinds old new count n s blanks pieces c place all true e p k q b a m far
+
+pub own_lines_no : (prefix pre : List ℕ) (kinds : List Kind) (old new : Growing) (count n : ℕ) (s : Step) (blanks : ℕ) (pieces : List Piece) (c place : Cursor) (all : Bool) (line : ℕ) →
+    s ≡ step.Each blanks → pre ≡ prefix → kinds ≡ holes_of old.part → n ≡ count → all ≡ false → line ≡ next_number place → AnswersAll pre kinds pieces n (told old) c all new place →
+    AnswersOwn c (StepTells prefix old count (s, pieces)) new (Err line)
+own_lines_no prefix pre kinds old new count n s blanks pieces c place all line e p k q b at a m le far = own_lines prefix pre kinds old new count n s blanks pieces c place all false e p k q b a m (omega (arith, at, far))
+
+-- a use, and user code, in each text that is like what is left
+pub use_told : (n : ℕ) (c next : Cursor) (text : List ℕ) (p : Part) (old new : Told) → TellsText p (IsUse (left c)) old new (left next) → IsTaken c next → next_number c ≤ n → next_number next ≤ n → Like n c text →
+    (rest : List ℕ) × TellsText p (IsUse text) old new rest × Moves n c next text rest
+use_told n c next text p old new t same le far like =
+    let x = use_like n c next text t.text same t.is_text le far like in
+    (x.0, record { bare = t.bare; first = t.first; text = t.text; is_text = x.1; behind = x.2.like.is_text; new_is = t.new_is }, x.2)
+
+pub code_told : (n : ℕ) (c next : Cursor) (text : List ℕ) (p : Part) (old new : Told) → TellsText p (IsCode (left c)) old new (left next) → IsTaken c next → next_number c ≤ n → next_number next ≤ n → Like n c text →
+    (rest : List ℕ) × TellsText p (IsCode text) old new rest × Moves n c next text rest
+code_told n c next text p old new t same le far like =
+    let x = code_like n c next text t.text same t.is_text far like in
+    (x.0, record { bare = t.bare; first = t.first; text = t.text; is_text = x.1; behind = x.2.like.is_text; new_is = t.new_is }, x.2)
+
+-- or none is there
+none_here : (p : Part) (IsText Other : List ℕ → List ℕ → Type 0) (old new : Told) (rest : List ℕ) → NotTold (TellsText p IsText old) → TellsText p Other old new rest → (text there : List ℕ) → IsUtf8 there → IsText text there → ⊥
+none_here p IsText Other old new rest none t text there u is = none (record old { holes = text ∷ [] }) there (record { bare = t.bare; first = t.first; text = text; is_text = is; behind = u; new_is = refl })
+
+pub no_use_told : (n : ℕ) (c : Cursor) (text : List ℕ) (p : Part) (old : Told) (start from line : ℕ) → NotTold (TellsText p (IsUse (left c)) old) → drop start c.text.now ≡ settled (left c) →
+    from ≡ min (start + 4) (2 ^ 64 - 1) → IsCutLine c.text.now from line → next_number c ≤ n → line ≤ n → Like n c text → NotTold (TellsText p (IsUse text) old)
+no_use_told n c text p old start from line none at is stops le far like new rest t =
+    no_use_like n c text start from line at is stops le far like (none_here p (IsUse (left c)) (IsUse text) old new rest none t) t.text rest t.behind t.is_text
+
+pub no_code_told : (n : ℕ) (c : Cursor) (text : List ℕ) (p : Part) (old : Told) (line : ℕ) → NotTold (TellsText p (IsCode (left c)) old) → IsCutLine c.text.now c.raw line → next_number c ≤ n → line ≤ n → Like n c text → NotTold (TellsText p (IsCode text) old)
+no_code_told n c text p old line none stops le far like new rest t =
+    no_code_like n c text line stops le far like (none_here p (IsCode (left c)) (IsCode text) old new rest none t) t.text rest t.behind t.is_text

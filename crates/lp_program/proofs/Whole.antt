@@ -1,44 +1,58 @@
 -- A whole program that is read, or isn't.
-use Rattle.std.proofs.Common.{◌≡◌, ℕ, zero, suc, Bool, true, false, List, [], ◌++◌, Option, Some, None, Bor, refl, sym, ap, ◌∙◌, subst}
+use Rattle.std.proofs.Common.{◌≡◌, ℕ, zero, suc, Bool, true, false, List, [], ◌++◌, Option, Some, None, Bor, refl, sym, ap, ◌∙◌, arith, subst}
+use Rattle.std.specs.Bool.{Decides}
 use Rattle.std.specs.Option.{MatchOption, unwrap_or}
+use Rattle.std.specs.Str.{IsUtf8}
 use Rattle.std.proofs.lemmas.Bool.{false≢true}
 use Rattle.lp_form.specs.declared.part.Part.{Part}
 use Rattle.lp_form.specs.declared.part.Part.TheVariants as part
 use Rattle.lp_spelling.specs.Counting.{settled}
-use Rattle.lp_spelling.specs.Cursors.{left}
 use Rattle.lp_tree.specs.declared.tree.Program.{Program}
 use Rattle.lp_program.specs.declared.read.reader.Reader.{Reader}
-use Rattle.lp_program.specs.Answering.{AnswersTrees}
-use Rattle.lp_program.specs.Choosing.{IsUnread, IsChosen, PartChosen, WholeChosen, grown}
+use Rattle.lp_program.specs.Adding.{SamePlace}
+use Rattle.lp_program.specs.Answering.{NoneRead, AnswersTrees}
+use Rattle.lp_program.specs.declared.read.reader.ReadFault.TheVariants as fault
+use Rattle.lp_program.specs.Choosing.{IsChosen, IsRefused, PartChosen, WholeChosen, grown}
+use Rattle.lp_program.specs.Nearby.{Like, OfLike}
 use Rattle.lp_program.specs.Prefixes.{ShowsPrefix}
 use Rattle.lp_program.specs.Trees.{Content, Forest, whole}
 use Rattle.lp_program.specs.Trees.Forest.{bare, tree}
 use Rattle.lp_program.proofs.Adding.{whole_one}
-use Rattle.lp_program.proofs.Answering.{answers_yes, answers_no}
+use Rattle.lp_program.proofs.Answering.{answers_yes, answers_no, none_as}
 use Rattle.lp_program.proofs.Chosen.{part_once}
 use Rattle.lp_program.proofs.Grafts.{holds_alone}
+use Rattle.lp_program.proofs.Nearby.{moves_same, moves_then}
 use Rattle.lp_program.proofs.Prefixes.{prefix_once}
 
 -- no part, and so no program
-pub whole_not : (a : Reader) (read : Bool) (b : Reader) → read ≡ false → AnswersTrees (PartChosen 16 a.prefix.now part.Program) a read b → IsUnread (WholeChosen a.prefix.now) (left a.cursor)
-whole_not a read b none x f rest y = answers_no (PartChosen 16 a.prefix.now part.Program) a read b none x f rest y.0
+pub whole_not : (a : Reader) (read : Bool) (b : Reader) → read ≡ false → AnswersTrees (PartChosen 16 a.prefix.now part.Program) a read b → NoneRead (WholeChosen a.prefix.now) a b
+whole_not a read b none x =
+    none_as (PartChosen 16 a.prefix.now part.Program) (WholeChosen a.prefix.now) a b (λ f text rest y. (f, rest, y.0)) (answers_no (PartChosen 16 a.prefix.now part.Program) a read b none x)
 
 -- a part, and nothing behind it, or something
-pub whole_answers : (a : Reader) (read : Bool) (b : Reader) (ended : Bool) (c : Reader) → read ≡ true → AnswersTrees (PartChosen 16 a.prefix.now part.Program) a read b → c ≡ record b { worst = c.worst } →
-    (ended ≡ true → settled (left b.cursor) ≡ []) → (settled (left b.cursor) ≡ [] → ended ≡ true) → AnswersTrees (WholeChosen a.prefix.now) a ended c
-whole_answers a read b true c all x kept nothing some =
+pub whole_answers : (a : Reader) (read : Bool) (b : Reader) (ended : Bool) (c : Reader) → read ≡ true → AnswersTrees (PartChosen 16 a.prefix.now part.Program) a read b → SamePlace b c →
+    OfLike c.looked b.cursor (λ text. Decides ended (settled text ≡ [])) → AnswersTrees (WholeChosen a.prefix.now) a ended c
+whole_answers a read b true c all x s over =
     let y = answers_yes (PartChosen 16 a.prefix.now part.Program) a read b all x in
     record {
       forest = y.forest;
       more = y.more;
-      entries_are = ap (λ r. r.entries.items) kept ∙ y.entries_are;
+      entries_are = s.entries_are ∙ y.entries_are;
       holds = y.holds;
-      reads = subst (λ k. WholeChosen a.prefix.now y.forest (left a.cursor) (left k)) (sym (ap (λ r. r.cursor) kept)) (y.reads, nothing refl);
+      looked = omega (arith, y.looked, s.looked);
+      reads = λ n m text like.
+          let z = y.reads n (omega (arith, s.looked, m)) text like in
+          (z.0, (z.1, (over n m z.0 z.2.like).0 refl), moves_then n a.cursor b.cursor c.cursor text z.0 z.0 z.2 (moves_same n b.cursor c.cursor z.0 s.cursor_is z.2.like));
     }
-whole_answers a read b false c all x kept nothing some = λ f rest z.
+whole_answers a read b false c all x s over =
     let y = answers_yes (PartChosen 16 a.prefix.now part.Program) a read b all x in
-    let e = part_once 16 a.prefix.now part.Program f y.forest (left a.cursor) rest (left b.cursor) z.0 y.reads in
-    false≢true (some (subst (λ (t : List ℕ). settled t ≡ []) e.1 z.1))
+    record {
+      looked = omega (arith, y.looked, s.looked);
+      unread = λ n m text like f rest w.
+          let z = y.reads n (omega (arith, s.looked, m)) text like in
+          let e = part_once 16 a.prefix.now part.Program f y.forest text rest z.0 w.0 z.1 in
+          false≢true ((over n m z.0 z.2.like).1 (subst (λ (t : List ℕ). settled t ≡ []) e.1 w.1));
+    }
 
 -- a part is one tree
 one_tree : (depth : ℕ) (prefix : List ℕ) (p : Part) (f : Forest) (text rest : List ℕ) → PartChosen depth prefix p f text rest → (c : Content) × (below : Forest) × (f ≡ tree c below bare)
@@ -47,33 +61,31 @@ one_tree zero prefix p f text rest x = absurd x
 one_tree (suc depth) prefix p f text rest x = (grown p x.0, x.1, x.2)
 
 -- a program
-pub program_chosen : (text : List ℕ) (old : Reader) (read : Bool) (new : Reader) (program : Program) → read ≡ true → AnswersTrees (WholeChosen old.prefix.now) old read new → old.entries.items ≡ [] → left old.cursor ≡ text →
-    program.prefix ≡ old.prefix.now → program.entries.items ≡ new.entries.items → ShowsPrefix program.prefix text → IsChosen text program
-program_chosen text old read new program all x none front prefix entries shows =
+pub program_chosen : (text : List ℕ) (old : Reader) (read : Bool) (new : Reader) (program : Program) → read ≡ true → AnswersTrees (WholeChosen old.prefix.now) old read new → old.entries.items ≡ [] →
+    ((n : ℕ) → Like n old.cursor text) → program.prefix ≡ old.prefix.now → program.entries.items ≡ new.entries.items → ShowsPrefix program.prefix text → IsChosen text program
+program_chosen text old read new program all x none like prefix entries shows =
     let y = answers_yes (WholeChosen old.prefix.now) old read new all x in
-    let f = one_tree 16 old.prefix.now part.Program y.forest (left old.cursor) (left new.cursor) y.reads.0 in
+    let z = y.reads new.looked (omega arith) text (like new.looked) in
+    let f = one_tree 16 old.prefix.now part.Program y.forest text z.0 z.1.0 in
     let es : program.entries.items ≡ y.more = entries ∙ y.entries_are ∙ ap (λ l. l ++ y.more) none in
     let is : whole program.entries.items ≡ y.forest = ap whole es ∙ whole_one y.more f.0 f.1 (holds_alone y.more y.forest y.holds ∙ f.2) ∙ sym f.2 in
     record {
-      rest = left new.cursor;
+      rest = z.0;
       shows = shows;
-      reads = subst (λ (w : Forest). WholeChosen program.prefix w text (left new.cursor)) (sym is)
-          (subst (λ (p : List ℕ). WholeChosen p y.forest text (left new.cursor)) (sym prefix) (subst (λ (t : List ℕ). WholeChosen old.prefix.now y.forest t (left new.cursor)) front y.reads));
+      reads = subst (λ (w : Forest). WholeChosen program.prefix w text z.0) (sym is) (subst (λ (p : List ℕ). WholeChosen p y.forest text z.0) (sym prefix) z.1);
     }
 
--- no program
-program_unread : (text : List ℕ) (old : Reader) (program : Program) → IsUnread (WholeChosen old.prefix.now) (left old.cursor) → left old.cursor ≡ text → program.prefix ≡ old.prefix.now → IsChosen text program → ⊥
-program_unread text old program none front prefix x =
-    none (whole program.entries.items) x.rest
-    (subst (λ (t : List ℕ). WholeChosen old.prefix.now (whole program.entries.items) t x.rest) (sym front)
-    (subst (λ (p : List ℕ). WholeChosen p (whole program.entries.items) text x.rest) prefix x.reads))
+-- no program, whatever prefix the text shows, if any
+pub program_refused : (text other : List ℕ) (old new : Reader) (shown : Option (Bor (List ℕ))) (none : Bor (List ℕ)) → MatchOption shown ((prefix : List ℕ) → ShowsPrefix prefix text → ⊥) (λ x. ShowsPrefix x.now text) →
+    old.prefix ≡ unwrap_or shown none → NoneRead (WholeChosen old.prefix.now) old new → Like new.looked old.cursor other → (program : Program) → ShowsPrefix program.prefix text → IsChosen other program → ⊥
+program_refused text other old new None none exact prefix unread like program shows x = exact program.prefix shows
+program_refused text other old new (Some s) none exact prefix unread like program shows x =
+    let same : program.prefix ≡ old.prefix.now = prefix_once program.prefix s.now text shows exact ∙ sym (ap (λ p. p.now) prefix) in
+    unread.unread new.looked (omega arith) other like (whole program.entries.items) x.rest (subst (λ (p : List ℕ). WholeChosen p (whole program.entries.items) other x.rest) same x.reads)
 
--- whatever prefix the text shows, if any
-pub program_refused : (text : List ℕ) (old : Reader) (shown : Option (Bor (List ℕ))) (none : Bor (List ℕ)) → MatchOption shown ((prefix : List ℕ) → ShowsPrefix prefix text → ⊥) (λ x. ShowsPrefix x.now text) →
-    old.prefix ≡ unwrap_or shown none → IsUnread (WholeChosen old.prefix.now) (left old.cursor) → left old.cursor ≡ text → (program : Program) → IsChosen text program → ⊥
-program_refused text old None none exact prefix unread front program x = exact program.prefix x.shows
-program_refused text old (Some s) none exact prefix unread front program x =
-    program_unread text old program unread front (prefix_once program.prefix s.now text x.shows exact ∙ sym (ap (λ p. p.now) prefix)) x
-
-pub read_none : (old : Reader) (read : Bool) (new : Reader) → read ≡ false → AnswersTrees (WholeChosen old.prefix.now) old read new → IsUnread (WholeChosen old.prefix.now) (left old.cursor)
+pub read_none : (old : Reader) (read : Bool) (new : Reader) → read ≡ false → AnswersTrees (WholeChosen old.prefix.now) old read new → NoneRead (WholeChosen old.prefix.now) old new
 read_none old read new none x = answers_no (WholeChosen old.prefix.now) old read new none x
+
+-- a text that is refused is one with the same lines: no program is chosen in it
+pub refused_itself : (text : List ℕ) (line : ℕ) → IsUtf8 text → IsRefused text (fault.NoForm line) → (program : Program) → IsChosen text program → ⊥
+refused_itself text line u refused program x = refused text u refl program x.shows x

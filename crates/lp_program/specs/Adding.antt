@@ -1,5 +1,5 @@
 -- What a reader adds: parts behind those that it has, whose trees take the front off what is left of its text.
-use Rattle.std.specs.Prelude.{◌≡◌, ℕ, ◌+◌, ◌-◌, ◌<◌, Bool, true, false, List, [], ◌∷◌, ◌++◌, length, get_or, drop, set}
+use Rattle.std.specs.Prelude.{◌≡◌, ℕ, ◌+◌, ◌-◌, ◌<◌, ◌≤◌, Bool, true, false, List, [], ◌∷◌, ◌++◌, length, get_or, drop, set}
 use Rattle.std.specs.Bool.{OnTrue}
 use Rattle.lp_form.specs.Templates.{steps_of, holes_of}
 use Rattle.lp_form.specs.Templates as template
@@ -38,10 +38,11 @@ pub record Extends (old new : Reader) : Type 0 where
   pub more : List Entry
   pub entries_are : new.entries.items ≡ old.entries.items ++ more
 
--- a reader at the same place, with the same parts
+-- a reader at the same place, with the same parts, whether or not it looked at more lines
 pub record SamePlace (old new : Reader) : Type 0 where
   pub prefix_is : new.prefix.now ≡ old.prefix.now
   pub cursor_is : new.cursor ≡ old.cursor
+  pub looked : old.looked ≤ new.looked
   pub entries_are : new.entries.items ≡ old.entries.items
 
 -- the parts of trees side by side: one; those that a step may have; a part and one of a class
@@ -117,6 +118,7 @@ pub record StepsBring (part : Part) (g : Growing) (old : Reader) (read : Bool) (
 pub record Opened (part : Part) (old new : Reader) (g : Growing) : Type 0 where
   pub prefix_is : new.prefix.now ≡ old.prefix.now
   pub cursor_is : new.cursor ≡ old.cursor
+  pub looked_is : new.looked ≡ old.looked
   pub first : Entry
   pub first_is : first.part ≡ part
   pub notes_are : first.notes.items ≡ []

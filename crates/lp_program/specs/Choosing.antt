@@ -1,6 +1,7 @@
 -- What a reader reads that looks ahead: it chooses each part by the lines in front, and a hole is told by the first line that has it.
 use Rattle.std.specs.Prelude.{◌≡◌, ℕ, zero, suc, ◌<◌, ◌⊎◌, List, [], ◌∷◌, ◌++◌, length, Option, Some, None, codes}
 use Rattle.std.specs.Option.{MatchOption}
+use Rattle.std.specs.Str.{IsUtf8}
 use Rattle.lp_form.specs.Templates.{steps_of}
 use Rattle.lp_form.specs.Templates as template
 use Rattle.lp_form.specs.declared.class.Class.{Class}
@@ -9,6 +10,7 @@ use Rattle.lp_form.specs.declared.part.Part.{Part}
 use Rattle.lp_form.specs.declared.part.Part.TheVariants as part
 use Rattle.lp_form.specs.declared.template.Step.{Step}
 use Rattle.lp_form.specs.declared.template.Step.TheVariants as step
+use Rattle.lp_local.specs.Agreeing.{Agree}
 use Rattle.lp_spelling.specs.Counting.{settled, front_line}
 use Rattle.lp_tree.specs.declared.tree.Program.{Program}
 use Rattle.lp_program.specs.declared.read.reader.Parameters.{Parameters}
@@ -151,7 +153,8 @@ pub record IsChosen (text : List ℕ) (program : Program) : Type 0 where
   pub shows : ShowsPrefix program.prefix text
   pub reads : WholeChosen program.prefix (whole program.entries.items) text rest
 
--- why a text isn't read: no program is chosen in it, but where memory is wanting
+-- why a text isn't read: no program is chosen, under the prefix that it shows, in any text with the same lines up to the one that is named; but where memory is wanting
 abbrev pub IsRefused : List ℕ → ReadFault → Type 0
-IsRefused text (fault.NoForm line) = (program : Program) → IsChosen text program → ⊥
+IsRefused text (fault.NoForm line) =
+    (other : List ℕ) → IsUtf8 other → Agree line other text → (program : Program) → ShowsPrefix program.prefix text → IsChosen other program → ⊥
 IsRefused text fault.Memory = Unit {0}

@@ -10,6 +10,7 @@ pub mod Growing
 pub mod Adding
 pub mod Begins
 pub mod Looking
+pub mod Nearby
 pub mod Telling
 pub mod Prefixes
 pub mod Parameters

@@ -1,5 +1,5 @@
 -- What a step itself tells of its part: a hole is told by the first line that has it, and no line, text or table is read but in one way.
-use Rattle.std.specs.Prelude.{◌≡◌, ℕ, zero, suc, ℤ, Bool, true, false, List, [], ◌∷◌, length, Option, Some, None, Result, Ok, Err}
+use Rattle.std.specs.Prelude.{◌≡◌, ℕ, zero, suc, ◌≤◌, ℤ, Bool, true, false, List, [], ◌∷◌, length, Option, Some, None, Result, Ok, Err}
 use Rattle.std.specs.Str.{IsUtf8}
 use Rattle.lp_form.specs.Templates.{Piece, holes_of}
 use Rattle.lp_form.specs.Templates as template
@@ -12,8 +12,10 @@ use Rattle.lp_spelling.specs.declared.cursor.Cursor.{Cursor}
 use Rattle.lp_spelling.specs.LineReading.{line_at, AllFill}
 use Rattle.lp_spelling.specs.TableReading.{entries}
 use Rattle.lp_program.specs.CodeReading.{IsUse, IsCode}
+use Rattle.lp_program.specs.Nearby.{next_number, EachLike, EachTaken}
 use Rattle.lp_program.specs.Reads.{TakesLine}
 use Rattle.lp_program.specs.declared.read.growing.Growing.{Growing}
+use Rattle.lp_program.specs.declared.read.reader.Reader.{Reader}
 
 -- what is told of a part so far: its holes, and the entries of its table where that was read
 pub record Told : Type 0 where
@@ -76,19 +78,32 @@ abbrev pub Answers : (Told → List ℕ → Type 0) → Bool → Told → List �
 Answers Tells true new rest = Tells new rest
 Answers Tells false new rest = NotTold Tells
 
--- the same, where the answer is the place behind what was taken, or none; or else a line that doesn't fit
+-- the same, where the answer is the place behind what was taken, or none
 abbrev pub AnswersPlace : (Told → List ℕ → Type 0) → Growing → Option Cursor → Type 0
 AnswersPlace Tells new (Some next) = Tells (told new) (left next)
 AnswersPlace Tells new None = NotTold Tells
 
-abbrev pub AnswersOwn : (Told → List ℕ → Type 0) → Growing → Result Cursor ℕ → Type 0
-AnswersOwn Tells new (Ok next) = Tells (told new) (left next)
-AnswersOwn Tells new (Err line) = NotTold Tells
+-- an answer on each text that is like what is left at a cursor: what is told, up to the place behind it, or that nothing is told so
+abbrev pub AnswersEach : ℕ → Cursor → (List ℕ → Told → List ℕ → Type 0) → Bool → Told → Cursor → Type 0
+AnswersEach n c Tells true new next = EachTaken n c next (λ text rest. Tells text new rest)
+AnswersEach n c Tells false new next = EachLike n c (λ text. NotTold (Tells text))
+
+-- the same, where the next lines that count were looked at, both in front and behind what was taken; or a line that doesn't fit
+abbrev pub AnswersUpTo : ℕ → Cursor → (List ℕ → Told → List ℕ → Type 0) → Growing → Result Cursor ℕ → Type 0
+AnswersUpTo n c Tells new (Ok next) = next_number next ≤ n → AnswersEach n c Tells true (told new) next
+AnswersUpTo n c Tells new (Err line) = line ≤ n → AnswersEach n c Tells false (told new) c
+
+abbrev pub AnswersOwn : Cursor → (List ℕ → Told → List ℕ → Type 0) → Growing → Result Cursor ℕ → Type 0
+AnswersOwn c Tells new r = (n : ℕ) → next_number c ≤ n → AnswersUpTo n c Tells new r
+
+-- an answer on lines, where the next line that counts was looked at behind those that were taken
+abbrev pub AnswersLines : Cursor → (List ℕ → Told → List ℕ → Type 0) → Bool → Growing → Cursor → Type 0
+AnswersLines c Tells all new next = (n : ℕ) → next_number next ≤ n → AnswersEach n c Tells all (told new) next
 
 -- what a step of a part itself tells, whose template line is this
 abbrev pub StepTells : List ℕ → Growing → ℕ → template.Line → List ℕ → Told → List ℕ → Type 0
 StepTells prefix old count s text new rest = TellsOwn prefix old.part count s.1 s.0 (told old) new text rest
 
--- an answer on a step itself
-abbrev pub OwnTold : List ℕ → Growing → ℕ → template.Line → List ℕ → Bool → Growing → List ℕ → Type 0
-OwnTold prefix old count s text b new rest = Answers (StepTells prefix old count s text) b (told new) rest
+-- an answer on a step itself, of a reader that went on from one place to another
+abbrev pub OwnTold : List ℕ → Growing → ℕ → template.Line → Reader → Bool → Growing → Reader → Type 0
+OwnTold prefix old count s a b new c = (n : ℕ) → c.looked ≤ n → AnswersEach n a.cursor (StepTells prefix old count s) b (told new) c.cursor

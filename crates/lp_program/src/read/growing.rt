@@ -10,7 +10,7 @@ ghost use Rattle.lp_program.specs.CodeReading.{IsUse, IsCode};
 ghost use Rattle.lp_program.specs.Reads.{TakesLine, TakesLines};
 ghost use Rattle.lp_program.specs.Growing.{Grows, MayBecome};
 ghost use Rattle.lp_program.specs.Looking.{AnswersLine, OfLines};
-ghost use Rattle.lp_program.specs.Telling.{told, TellsLine, TellsLines, TellsText, Answers, AnswersPlace};
+ghost use Rattle.lp_program.specs.Telling.{told, TellsLine, TellsLines, TellsText, AnswersLines, AnswersPlace};
 
 use crate::read::taking::{take_code, take_use};
 use lp_form::Part;
@@ -81,7 +81,7 @@ pub(crate) fn lines_step<'t>(
     ensures same { IfOk result (λ r. IsTaken cursor.entry r.0) }
     ensures grows { IfOk result (λ r. OnTrue r.1 (Grows scope.entry.prefix.now growing.old growing.new)) }
     ensures takes { IfOk result (λ r. OnTrue r.1 ((c : _) → MayBecome growing.new c → TakesLines count (line_of scope.entry.prefix.now c.holes (map piece pieces.now)) (left cursor.entry) (left r.0))) }
-    ensures tells { IfOk result (λ r. Answers (λ new rest. TellsLines count scope.entry.prefix.now scope.entry.kinds.now (map piece pieces.now) (told growing.old) new (left cursor.entry) rest) r.1 (told growing.new) (left r.0)) }
+    ensures tells { IfOk result (λ r. AnswersLines cursor.entry (λ text new rest. TellsLines count scope.entry.prefix.now scope.entry.kinds.now (map piece pieces.now) (told growing.old) new text rest) r.1 growing.new r.0) }
 {
     let mut place = cursor;
     for _i in 0..count {

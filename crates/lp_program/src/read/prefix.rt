@@ -1,6 +1,6 @@
 //! The prefix that a text shows.
 
-ghost use Rattle.std.specs.Prelude.{◌≡◌, ℕ, true, List, MatchOption, IfSome};
+ghost use Rattle.std.specs.Prelude.{◌≡◌, ℕ, ◌<◌, ◌^◌, true, List, length, MatchOption, IfSome};
 ghost use Rattle.lp_program.specs.Prefixes.{renamed, ShowsPrefix};
 ghost use Rattle.lp_program.specs.Reads.{is_prefix};
 
@@ -37,6 +37,7 @@ fn prefix_in(shown: &str) -> Option<&str>
 pub(crate) fn prefix_of(text: &str) -> Option<&str>
     ensures fits { IfSome result (λ prefix. is_prefix prefix.now ≡ true) }
     ensures exact { MatchOption result ((prefix : List ℕ) → ShowsPrefix prefix text.now → ⊥) (λ prefix. ShowsPrefix prefix.now text.now) }
+    ensures size { length text.now < 2 ^ 64 }
 {
     let mut cursor = Cursor::new(text);
     for _i in 0..text.len() {

@@ -1,6 +1,6 @@
 //! The reader of programs: by the templates of the parts, from the front of the text on.
 
-ghost use Rattle.std.specs.Prelude.{◌≡◌, ℕ, ◌<◌, ◌+◌, ◌++◌, true, Some, None, List, [], length, drop, map, codes, IsTrue, MatchResult, IfErr, IfOk, OnOk, IfSome};
+ghost use Rattle.std.specs.Prelude.{◌≡◌, ℕ, ◌<◌, ◌≤◌, ◌+◌, ◌++◌, true, Some, None, List, [], length, drop, map, codes, IsTrue, MatchResult, IfErr, IfOk, OnOk, IfSome};
 ghost use Rattle.std.specs.Bool.{Decides, OnTrue};
 ghost use Rattle.lp_form.specs.Templates.{holes_of, steps_of};
 ghost use Rattle.lp_form.specs.Templates as template;
@@ -12,9 +12,10 @@ ghost use Rattle.lp_spelling.specs.Cursors.{left};
 ghost use Rattle.lp_program.specs.Adding.{kids, Adds, Brings, FilledAt, IsPair, IsPart, MayHave, Opened, OwnTaken, Reread, StepBrings, StepsBring, WholeRead};
 ghost use Rattle.lp_program.specs.Answering.{AnswersTrees, AnswersSteps, held};
 ghost use Rattle.lp_program.specs.Begins.{Begins, IsUseFirst};
-ghost use Rattle.lp_program.specs.Choosing.{AnyChosen, Below, BodyChosen, ClassChosen, EitherChosen, InlinedChosen, IsChosen, IsRefused, MemberChosen, OptionalChosen, PairChosen, PartChosen, PartSteps, SeenLines, StepChosen, WholeChosen};
+ghost use Rattle.lp_program.specs.Choosing.{AnyChosen, Below, BodyChosen, ClassChosen, EitherChosen, InlinedChosen, IsChosen, IsRefused, MemberChosen, OptionalChosen, PairChosen, PartChosen, PartSteps, StepChosen, WholeChosen};
 ghost use Rattle.lp_program.specs.CodeReading.{IsUse, IsCode};
 ghost use Rattle.lp_program.specs.Looking.{Chooses, OfLines, Picks};
+ghost use Rattle.lp_program.specs.Nearby.{OfLike};
 ghost use Rattle.lp_program.specs.Parameters.{first_or, last_parameter, parameter_after, parameters_of};
 ghost use Rattle.lp_program.specs.Printed.{is_member};
 ghost use Rattle.lp_program.specs.Reads.{ReadsAs};
@@ -39,7 +40,8 @@ use std::borrow::CowStr;
 #[derive(Clone, Copy, Debug, PartialEq, Eq)]
 pub enum ReadFault {
     /// The first line, from 1, that fits no form at its place; one past the last line where the
-    /// text ends too early.
+    /// text ends too early. It is the last line that was looked at: whatever stands behind it, the
+    /// text isn't read.
     NoForm { line: usize },
     Memory,
 }
@@ -64,8 +66,8 @@ struct Reader<'t> {
     alloc: Global,
     prefix: &'t str,
     cursor: Cursor<'t>,
-    /// The last line that didn't fit.
-    worst: usize,
+    /// The last line that was looked at.
+    looked: usize,
     entries: Vec<Entry<'t>>,
 }
 
@@ -82,14 +84,14 @@ pub fn read_program<'t>(alloc: Global, text: &'t str) -> Result<Program<'t>, Rea
         alloc,
         prefix: shown.unwrap_or(NO_PREFIX),
         cursor: Cursor::new(text),
-        worst: 0,
+        looked: 0,
         entries: Vec::new(alloc),
     };
     if !reader.read_whole()? {
-        return Err(ReadFault::NoForm { line: reader.worst });
+        return Err(ReadFault::NoForm { line: reader.looked });
     }
     let Some(prefix) = shown else {
-        return Err(ReadFault::NoForm { line: reader.worst });
+        return Err(ReadFault::NoForm { line: reader.looked });
     };
     let Reader { entries, .. } = reader;
     Ok(Program {
@@ -110,12 +112,15 @@ impl<'t> Reader<'t> {
         }
     }
 
-    /// Notes that a line doesn't fit.
-    fn miss(&mut self, line: usize)
-        ensures { self.new ≡ record self.old { worst = self.new.worst } }
+    /// Notes that a line is looked at, whether or not it fits: behind one that fits another is looked
+    /// at, before the reader gives up.
+    fn look_at(&mut self, line: usize)
+        ensures kept { self.new ≡ record self.old { looked = self.new.looked } }
+        ensures looked { self.old.looked ≤ self.new.looked }
+        ensures at { line ≤ self.new.looked }
     {
-        if line > self.worst {
-            self.worst = line;
+        if line > self.looked {
+            self.looked = line;
         }
     }
 
@@ -129,16 +134,14 @@ impl<'t> Reader<'t> {
 
     /// Whether nothing is left that counts.
     fn at_end(&mut self) -> bool
-        ensures kept { self.new ≡ record self.old { worst = self.new.worst } }
+        ensures kept { self.new ≡ record self.old { looked = self.new.looked } }
+        ensures looked { self.old.looked ≤ self.new.looked }
         ensures none { IsTrue result → settled (left self.old.cursor) ≡ [] }
-        ensures exact { settled (left self.old.cursor) ≡ [] → result ≡ true }
+        ensures exact { OfLike self.new.looked self.old.cursor (λ text. Decides result (settled text ≡ [])) }
     {
-        if self.cursor.line().is_none() {
-            return true;
-        }
-        let line = self.cursor.number();
-        self.miss(line);
-        false
+        let cursor = self.cursor;
+        self.look_at(cursor.number());
+        is_over(cursor)
     }
 
     /// Reads a whole program, after which nothing is left that counts.
@@ -254,17 +257,22 @@ impl<'t> Reader<'t> {
         growing: &mut Growing<'t>,
     ) -> Result<bool, AllocError>
         requires { at < length self.old.entries.items }
-        ensures kept { OnOk result (self.new ≡ record self.old { cursor = self.new.cursor; worst = self.new.worst }) }
+        ensures kept { OnOk result (self.new ≡ record self.old { cursor = self.new.cursor; looked = self.new.looked }) }
+        ensures looked { OnOk result (self.old.looked ≤ self.new.looked) }
         ensures takes { IfOk result (λ b. OnTrue b (OwnTaken self.old.prefix.now growing.old growing.new (kids at self.old) (template.line step.entry) (left self.old.cursor) (left self.new.cursor))) }
-        ensures tells { IfOk result (λ b. OwnTold self.old.prefix.now growing.old (kids at self.old) (template.line step.entry) (left self.old.cursor) b growing.new (left self.new.cursor)) }
+        ensures tells { IfOk result (λ b. OwnTold self.old.prefix.now growing.old (kids at self.old) (template.line step.entry) self.old b growing.new self.new) }
     {
+        let first = self.cursor.number();
         match self.own_taken(at, step, growing)? {
             Ok(next) => {
+                self.look_at(first);
+                self.look_at(next.number());
                 self.cursor = next;
                 Ok(true)
             }
             Err(line) => {
-                self.miss(line);
+                self.look_at(first);
+                self.look_at(line);
                 Ok(false)
             }
         }
@@ -279,7 +287,7 @@ impl<'t> Reader<'t> {
     ) -> Result<Result<Cursor<'t>, usize>, AllocError>
         requires { at < length self.now.entries.items }
         ensures takes { IfOk result (λ r. IfOk r (λ next. OwnTaken self.now.prefix.now growing.old growing.new (kids at self.now) (template.line step.entry) (left self.now.cursor) (left next))) }
-        ensures tells { IfOk result (AnswersOwn (StepTells self.now.prefix.now growing.old (kids at self.now) (template.line step.entry) (left self.now.cursor)) growing.new) }
+        ensures tells { IfOk result (AnswersOwn self.now.cursor (StepTells self.now.prefix.now growing.old (kids at self.now) (template.line step.entry)) growing.new) }
     {
         match step.0 {
             Step::Line(_) => {
@@ -330,7 +338,7 @@ impl<'t> Reader<'t> {
     /// The place behind a use, or the line that doesn't fit.
     fn use_taken(&self, growing: &mut Growing<'t>) -> Result<Result<Cursor<'t>, usize>, AllocError>
         ensures takes { IfOk result (λ r. IfOk r (λ next. (count : ℕ) (pieces : List template.Piece) → OwnTaken self.now.prefix.now growing.old growing.new count (step_of.Use, pieces) (left self.now.cursor) (left next))) }
-        ensures tells { IfOk result (AnswersOwn (TellsText growing.old.part (IsUse (left self.now.cursor)) (told growing.old)) growing.new) }
+        ensures tells { IfOk result (AnswersOwn self.now.cursor (λ text. TellsText growing.old.part (IsUse text) (told growing.old)) growing.new) }
     {
         if !is_blank_part(growing) {
             return Ok(Err(0));
@@ -347,7 +355,7 @@ impl<'t> Reader<'t> {
     /// The place behind user code, or the line that doesn't fit.
     fn code_taken(&self, growing: &mut Growing<'t>) -> Result<Result<Cursor<'t>, usize>, AllocError>
         ensures takes { IfOk result (λ r. IfOk r (λ next. (count : ℕ) (pieces : List template.Piece) → OwnTaken self.now.prefix.now growing.old growing.new count (step_of.Code, pieces) (left self.now.cursor) (left next))) }
-        ensures tells { IfOk result (AnswersOwn (TellsText growing.old.part (IsCode (left self.now.cursor)) (told growing.old)) growing.new) }
+        ensures tells { IfOk result (AnswersOwn self.now.cursor (λ text. TellsText growing.old.part (IsCode text) (told growing.old)) growing.new) }
     {
         if !is_blank_part(growing) {
             return Ok(Err(0));
@@ -364,7 +372,7 @@ impl<'t> Reader<'t> {
         growing: &mut Growing<'t>,
     ) -> Result<Result<Cursor<'t>, usize>, AllocError>
         ensures takes { IfOk result (λ r. IfOk r (λ next. (count : ℕ) (pieces : List template.Piece) → OwnTaken self.now.prefix.now growing.old growing.new count (step_of.Entries, pieces) (left self.now.cursor) (left next))) }
-        ensures tells { IfOk result (AnswersOwn (λ new rest. TellsTable (told growing.old) new (left self.now.cursor) rest) growing.new) }
+        ensures tells { IfOk result (AnswersOwn self.now.cursor (λ text new rest. TellsTable (told growing.old) new text rest) growing.new) }
     {
         if growing.tabled {
             return Ok(Err(0));
@@ -407,8 +415,9 @@ impl<'t> Reader<'t> {
     /// Whether the lines in front begin the part.
     #[cycle(looking)]
     fn begins(&mut self, depth: usize, part: Part) -> Result<bool, AllocError>
-        ensures kept { OnOk result (self.new ≡ record self.old { worst = self.new.worst }) }
-        ensures exact { IfOk result (λ b. OfLines (left self.old.cursor) (λ lines. Decides b (Begins depth self.old.prefix.now part lines))) }
+        ensures kept { OnOk result (self.new ≡ record self.old { looked = self.new.looked }) }
+        ensures looked { OnOk result (self.old.looked ≤ self.new.looked) }
+        ensures exact { IfOk result (λ b. OfLike self.new.looked self.old.cursor (λ text. OfLines text (λ lines. Decides b (Begins depth self.old.prefix.now part lines)))) }
     {
         if depth == 0 {
             return Ok(false);
@@ -420,8 +429,8 @@ impl<'t> Reader<'t> {
         for step in steps(part) {
             match step.0 {
                 Step::Line(_) => {
+                    self.look_at(cursor.number());
                     if !line_fits(scope, step.1, &mut known, cursor)? {
-                        self.miss(cursor.number());
                         return Ok(false);
                     }
                     cursor = cursor.after_line();
@@ -442,24 +451,21 @@ impl<'t> Reader<'t> {
 
     /// Whether the next line at a place begins a use.
     fn begins_use(&mut self, cursor: Cursor<'t>) -> bool
-        ensures kept { self.new ≡ record self.old { worst = self.new.worst } }
-        ensures exact { OfLines (left cursor.entry) (λ lines. Decides result (IsUseFirst lines)) }
+        ensures kept { self.new ≡ record self.old { looked = self.new.looked } }
+        ensures looked { self.old.looked ≤ self.new.looked }
+        ensures exact { OfLike self.new.looked cursor.entry (λ text. OfLines text (λ lines. Decides result (IsUseFirst lines))) }
     {
-        match cursor.line() {
-            Some(line) if line.starts_with("use ") => true,
-            _ => {
-                self.miss(cursor.number());
-                false
-            }
-        }
+        self.look_at(cursor.number());
+        is_use_first(cursor)
     }
 
     /// The part of a class that the lines in front begin.
     #[cycle(looking)]
     fn pick(&mut self, depth: usize, class: Class) -> Result<Option<Part>, AllocError>
-        ensures kept { OnOk result (self.new ≡ record self.old { worst = self.new.worst }) }
+        ensures kept { OnOk result (self.new ≡ record self.old { looked = self.new.looked }) }
+        ensures looked { OnOk result (self.old.looked ≤ self.new.looked) }
         ensures member { IfOk result (λ r. IfSome r (λ part. is_member class part ≡ true)) }
-        ensures exact { IfOk result (λ r. OfLines (left self.old.cursor) (Picks depth self.old.prefix.now class r)) }
+        ensures exact { IfOk result (λ r. OfLike self.new.looked self.old.cursor (λ text. OfLines text (Picks depth self.old.prefix.now class r))) }
     {
         for part in members(class) {
             if self.begins(depth, *part)? {
@@ -471,13 +477,11 @@ impl<'t> Reader<'t> {
 
     /// The one part of a class, or that which the lines in front begin.
     fn choose(&mut self, depth: usize, class: Class) -> Result<Option<Part>, AllocError>
-        ensures kept { OnOk result (self.new ≡ record self.old { worst = self.new.worst }) }
+        ensures kept { OnOk result (self.new ≡ record self.old { looked = self.new.looked }) }
+        ensures looked { OnOk result (self.old.looked ≤ self.new.looked) }
         ensures member { IfOk result (λ r. IfSome r (λ part. is_member class part ≡ true)) }
-        ensures exact { IfOk result (λ r. OfLines (left self.old.cursor) (Chooses depth self.old.prefix.now class r)) }
-        ensures seen { IfOk result (λ r. SeenLines (left self.old.cursor) (Chooses depth self.old.prefix.now class r)) }
+        ensures exact { IfOk result (λ r. OfLike self.new.looked self.old.cursor (λ text. OfLines text (Chooses depth self.old.prefix.now class r))) }
     {
-        // Its lines are there.
-        let _ahead = self.ahead();
         let parts = members(class);
         if parts.len() == 1 {
             return Ok(Some(parts[0]));
@@ -516,8 +520,6 @@ impl<'t> Reader<'t> {
         ensures reads { IfOk result (λ b. Brings (MayHave (step_of.Optional class)) self.old b self.new) }
         ensures chosen { IfOk result (λ b. AnswersTrees (OptionalChosen depth self.old.prefix.now (PartChosen depth self.old.prefix.now) class) self.old b self.new) }
     {
-        // Its lines are there.
-        let _ahead = self.ahead();
         match self.pick(depth, class)? {
             Some(part) => self.read_part(depth, part),
             None => Ok(true),
@@ -660,13 +662,14 @@ impl<'t> Reader<'t> {
     }
 
     /// Whether the next line is a `}`.
-    fn closes(&self) -> bool
-        ensures { Decides result (front_line (settled (left self.now.cursor)) ≡ codes "}") }
+    fn closes(&mut self) -> bool
+        ensures kept { self.new ≡ record self.old { looked = self.new.looked } }
+        ensures looked { self.old.looked ≤ self.new.looked }
+        ensures exact { OfLike self.new.looked self.old.cursor (λ text. Decides result (front_line (settled text) ≡ codes "}")) }
     {
-        match self.cursor.line() {
-            Some(line) => line == "}",
-            None => false,
-        }
+        let cursor = self.cursor;
+        self.look_at(cursor.number());
+        is_close_first(cursor)
     }
 
     /// Whose parameters the header of an action ends with.
@@ -685,6 +688,34 @@ impl<'t> Reader<'t> {
             Some(_) => Parameters::Inlined,
             None => Parameters::None,
         }
+    }
+}
+
+/// Whether nothing is left that counts.
+fn is_over(cursor: Cursor<'_>) -> bool
+    ensures none { IsTrue result → settled (left cursor.entry) ≡ [] }
+    ensures some { settled (left cursor.entry) ≡ [] → result ≡ true }
+{
+    cursor.line().is_none()
+}
+
+/// Whether the next line begins a use.
+fn is_use_first(cursor: Cursor<'_>) -> bool
+    ensures { OfLines (left cursor.entry) (λ lines. Decides result (IsUseFirst lines)) }
+{
+    match cursor.line() {
+        Some(line) if line.starts_with("use ") => true,
+        _ => false,
+    }
+}
+
+/// Whether the next line is a `}`.
+fn is_close_first(cursor: Cursor<'_>) -> bool
+    ensures { Decides result (front_line (settled (left cursor.entry)) ≡ codes "}") }
+{
+    match cursor.line() {
+        Some(line) => line == "}",
+        None => false,
     }
 }
 

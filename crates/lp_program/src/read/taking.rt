@@ -6,7 +6,7 @@ ghost use Rattle.lp_tok.specs.Cut.{EndsCut, StopsAt};
 ghost use Rattle.lp_program.specs.CodeReading as codes_of;
 ghost use Rattle.lp_program.specs.CodeReading.{StartsUse};
 ghost use Rattle.lp_spelling.specs.Cursors.{left, IsTaken};
-ghost use Rattle.lp_program.specs.Taking.{IsTakenTable, IsTakenText};
+ghost use Rattle.lp_program.specs.Taking.{IsCutLine, IsTakenTable, IsTakenText};
 
 use lp_spelling::cursor::Cursor;
 use lp_spelling::rows::{Table, read_entries};
@@ -145,7 +145,9 @@ pub(crate) fn take_entries<'t>(
 }
 
 /// The line at which the cut from a place stops or fails, if the place is in the text.
-pub(crate) fn cut_line(cursor: Cursor<'_>, from: usize) -> usize {
+pub(crate) fn cut_line(cursor: Cursor<'_>, from: usize) -> usize
+    ensures { IsCutLine cursor.entry.text.now from result }
+{
     let text = cursor.text();
     if !text.is_char_boundary(from) {
         return cursor.past_last();

@@ -5,7 +5,7 @@ use Rattle.lp_spelling.specs.Cursors.{left}
 use Rattle.lp_program.specs.Reads.{TakesLines}
 use Rattle.lp_program.specs.Telling.{told}
 use Rattle.lp_program.proofs.Growing.{grows_none, grows_then, becomes_before, lines_more}
-use Rattle.lp_program.proofs.Telling.{lines_all, lines_not, lines_on, lines_start}
+use Rattle.lp_program.proofs.Telling.{all_of, not_of, on_of, start_of}
 use Rattle.lp_program.proofs.read.growing.lines_step.Goals as goal
 
 pub loop-i-init : goal.loop-i-init
@@ -14,7 +14,7 @@ loop-i-init c = record {
   same = refl;
   grows = grows_none c.args.scope.prefix.now c.args.growing.now;
   takes = λ content m. refl;
-  tells = lines_start _ _ _ c.args.count (told c.args.growing.now) (left c.args.cursor);
+  tells = start_of _ _ _ c.args.count (told c.args.growing.now) c.args.cursor;
 }
 
 pub line_step-requires : goal.line_step-requires
@@ -31,7 +31,7 @@ loop-i-preserved c =
       same = step.same ∙ i.same;
       grows = grows_then prefix c.args.growing.now c.loop-i.growing _ i.grows step.grows;
       takes = λ content m. lines_more c.loop-i._i (line_of prefix content.holes pieces) _ _ _ (i.takes content (becomes_before prefix c.loop-i.growing _ content step.grows m)) (step.takes content m);
-      tells = lines_on prefix _ pieces c.args.count c.loop-i._i (told c.args.growing.now) (told c.loop-i.growing) _ (left c.args.cursor) (left c.loop-i.place) _ (omega arith) i.tells step.tells;
+      tells = on_of prefix _ pieces c.args.count c.loop-i._i (told c.args.growing.now) (told c.loop-i.growing) _ c.args.cursor c.loop-i.place _ (omega arith) i.same i.tells step.same step.tells;
     }
 
 -- a line isn't there: only the text stays the same
@@ -42,7 +42,7 @@ returns-in_default c =
       same = c.loop-i.invariant.same;
       grows = tt;
       takes = tt;
-      tells = lines_not _ _ _ c.args.count c.loop-i._i (told c.args.growing.now) (told c.loop-i.growing) (left c.args.cursor) (left c.loop-i.place) (omega arith) c.loop-i.invariant.tells none.tells;
+      tells = not_of _ _ _ c.args.count c.loop-i._i (told c.args.growing.now) (told c.loop-i.growing) c.line_step.new.growing c.args.cursor c.loop-i.place (omega arith) c.loop-i.invariant.tells none.tells;
     }
 
 pub returns : goal.returns
@@ -52,5 +52,5 @@ returns c = record {
   takes = λ content m.
       subst (λ n. TakesLines n (line_of c.args.scope.prefix.now content.holes (map piece c.args.pieces.now)) (left c.args.cursor) (left c.loop-i.place)) (omega arith)
       (c.loop-i.invariant.takes content m);
-  tells = lines_all _ _ _ c.args.count c.loop-i._i (told c.args.growing.now) (told c.loop-i.growing) (left c.args.cursor) (left c.loop-i.place) (omega arith) c.loop-i.invariant.tells;
+  tells = all_of _ _ _ c.args.count c.loop-i._i (told c.args.growing.now) c.loop-i.growing c.args.cursor c.loop-i.place (omega arith) c.loop-i.invariant.tells;
 }

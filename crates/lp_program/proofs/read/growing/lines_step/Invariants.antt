@@ -7,7 +7,7 @@ use Rattle.lp_spelling.specs.Cursors.{left, IsTaken}
 use Rattle.lp_program.specs.Reads.{TakesLines}
 use Rattle.lp_program.specs.Growing.{Grows, MayBecome}
 use Rattle.lp_program.specs.Telling.{told}
-use Rattle.lp_program.proofs.Telling.{LinesLeft}
+use Rattle.lp_program.proofs.Telling.{LinesOf}
 use Rattle.lp_program.proofs.read.growing.lines_step.Given as goal
 
 abbrev pub invariant-loop-i : goal.invariant-loop-i
@@ -16,5 +16,5 @@ invariant-loop-i l = record {
   same : IsTaken l.cursor l.place;
   grows : Grows l.scope.prefix.now l.initial.growing l.growing;
   takes : (c : Content) → MayBecome l.growing c → TakesLines l._i (line_of l.scope.prefix.now c.holes (map piece l.pieces)) (left l.cursor) (left l.place);
-  tells : LinesLeft l.scope.prefix.now l.scope.kinds.now (map piece l.pieces) l.fn.count l._i (told l.initial.growing) (told l.growing) (left l.cursor) (left l.place);
+  tells : LinesOf l.scope.prefix.now l.scope.kinds.now (map piece l.pieces) l.fn.count l._i (told l.initial.growing) (told l.growing) l.cursor l.place;
 }

@@ -4,6 +4,8 @@ use Rattle.lp_program.specs.Prefixes.{ShowsPrefix}
 use Rattle.lp_program.specs.Reads.{is_prefix}
 use Rattle.lp_program.specs.declared.read.reader.Reader.{Reader}
 use Rattle.lp_program.proofs.Adding.{program_read}
+use Rattle.lp_program.proofs.Nearby.{like_first}
+use Rattle.lp_program.proofs.Prefixes.{shows_counted}
 use Rattle.lp_program.proofs.Whole.{program_chosen, program_refused, read_none}
 use Rattle.lp_program.proofs.read.reader.read_program.Goals as goal
 
@@ -17,18 +19,23 @@ returns-clause-reads c =
 
 pub returns-clause-chosen : goal.returns-clause-chosen
 returns-clause-chosen c =
+    let text = c.args.text.now in
     let shows = rw c.in-Some.is at c.prefix_of-shown.ensures.exact in
     let got = rw c.in-Some.is at c.unwrap_or.ensures in
     let prefix : c.new-3.result ≡ c.in-Some.prefix.now = search rules in
-    let old : Reader = record { alloc = c.args.alloc; prefix = c.unwrap_or.result; cursor = c.new.result; worst = 0; entries = c.new-2.result } in
-    program_chosen c.args.text.now old _ c.read_whole.new.self _ c.if-not-branch.false c.in_ok-read_whole.ensures.chosen c.new-2.ensures.items c.new.ensures.rest (prefix ∙ sym (ap (λ p. p.now) got)) refl
-    (subst (λ (p : List ℕ). ShowsPrefix p c.args.text.now) (sym prefix) shows)
+    let old : Reader = record { alloc = c.args.alloc; prefix = c.unwrap_or.result; cursor = c.new.result; looked = 0; entries = c.new-2.result } in
+    program_chosen text old _ c.read_whole.new.self _ c.if-not-branch.false c.in_ok-read_whole.ensures.chosen c.new-2.ensures.items
+    (λ n. like_first n c.new.result text text c.new.ensures.text c.new.ensures.rest c.utf8.text c.prefix_of-shown.ensures.size (shows_counted c.in-Some.prefix.now text c.prefix_of-shown.ensures.size shows) c.utf8.text refl)
+    (prefix ∙ sym (ap (λ p. p.now) got)) refl (subst (λ (p : List ℕ). ShowsPrefix p text) (sym prefix) shows)
 
 pub returns-then-not-branch-clause-refused : goal.returns-then-not-branch-clause-refused
-returns-then-not-branch-clause-refused c =
-    let old : Reader = record { alloc = c.args.alloc; prefix = c.unwrap_or.result; cursor = c.new.result; worst = 0; entries = c.new-2.result } in
-    program_refused c.args.text.now old c.prefix_of-shown.result _ c.prefix_of-shown.ensures.exact c.unwrap_or.ensures (read_none old _ c.read_whole.new.self c.if-not-branch.true c.in_ok-read_whole.ensures.chosen)
-    c.new.ensures.rest
+returns-then-not-branch-clause-refused c = λ other u lines program shows.
+    let text = c.args.text.now in
+    let old : Reader = record { alloc = c.args.alloc; prefix = c.unwrap_or.result; cursor = c.new.result; looked = 0; entries = c.new-2.result } in
+    let count = shows_counted program.prefix text c.prefix_of-shown.ensures.size shows in
+    program_refused text other old c.read_whole.new.self c.prefix_of-shown.result _ c.prefix_of-shown.ensures.exact c.unwrap_or.ensures
+    (read_none old _ c.read_whole.new.self c.if-not-branch.true c.in_ok-read_whole.ensures.chosen)
+    (like_first c.read_whole.new.self.looked c.new.result text other c.new.ensures.text c.new.ensures.rest c.utf8.text c.prefix_of-shown.ensures.size count u lines) program shows
 
 pub returns-in_default-clause-refused : goal.returns-in_default-clause-refused
-returns-in_default-clause-refused c = λ program x. (rw c.in_default.is at c.prefix_of-shown.ensures.exact) program.prefix x.shows
+returns-in_default-clause-refused c = λ other u lines program shows x. (rw c.in_default.is at c.prefix_of-shown.ensures.exact) program.prefix shows

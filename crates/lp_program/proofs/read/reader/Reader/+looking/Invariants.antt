@@ -1,8 +1,7 @@
 -- Looking changes nothing but the line that is noted, and what is left to be asked is what was asked; none of the parts that were tried begins.
-use Rattle.std.proofs.Common.{◌≡◌, ◌+◌, ◌*◌, false}
-use Rattle.lp_spelling.specs.Cursors.{left}
-use Rattle.lp_program.specs.Looking.{OfLines, NoneBegun}
-use Rattle.lp_program.proofs.Beginning.{Asks}
+use Rattle.std.proofs.Common.{◌≡◌, ◌+◌, ◌*◌, ◌≤◌}
+use Rattle.lp_program.proofs.Beginning.{AsksOf}
+use Rattle.lp_program.proofs.Picking.{NoneOf}
 use Rattle.lp_program.proofs.read.reader.Reader.+looking.Given as goal
 
 abbrev pub decreases-begins : goal.decreases-begins
@@ -13,13 +12,14 @@ decreases-pick l = 2 * l.depth + 1
 
 abbrev pub invariant-begins-loop-step : goal.invariant-begins-loop-step
 invariant-begins-loop-step l = record {
-  kept : l.self ≡ record l.initial.self { worst = l.self.worst };
-  front : l.lines ≡ false → left l.cursor ≡ left l.initial.self.cursor;
-  asks : Asks l.depth l.initial.self.prefix.now l.fn.part (left l.initial.self.cursor) l.step-index l.lines l.known.items (left l.cursor);
+  kept : l.self ≡ record l.initial.self { looked = l.self.looked };
+  looked : l.initial.self.looked ≤ l.self.looked;
+  asks : AsksOf l.depth l.initial.self.prefix.now l.fn.part l.self.looked l.initial.self.cursor l.step-index l.lines l.known.items l.cursor;
 }
 
 abbrev pub invariant-pick-loop-part : goal.invariant-pick-loop-part
 invariant-pick-loop-part l = record {
-  kept : l.self ≡ record l.initial.self { worst = l.self.worst };
-  none : OfLines (left l.initial.self.cursor) (NoneBegun l.depth l.initial.self.prefix.now l.fn.class l.part-index);
+  kept : l.self ≡ record l.initial.self { looked = l.self.looked };
+  looked : l.initial.self.looked ≤ l.self.looked;
+  none : NoneOf l.depth l.initial.self.prefix.now l.fn.class l.self.looked l.initial.self.cursor l.part-index;
 }

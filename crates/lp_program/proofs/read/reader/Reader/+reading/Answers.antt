@@ -1,5 +1,5 @@
-use Rattle.std.proofs.Common.{◌≡◌, length, None, Some, arith, refl, sym, ap, ◌∙◌, subst}
-use Rattle.std.specs.Str.{IsUtf8}
+use Rattle.std.proofs.Common.{◌≡◌, ◌++◌, length, take, None, Some, arith, refl, sym, ap, ◌∙◌}
+use Rattle.std.proofs.Math.Seq.{take-append_seam}
 use Rattle.std.proofs.lemmas.Bool.{OnTrue_at}
 use Rattle.std.proofs.lemmas.List.{drop_all}
 use Rattle.std.proofs.lemmas.Result.{IfOk-weaker}
@@ -13,13 +13,12 @@ use Rattle.lp_program.specs.declared.read.reader.Parameters.TheVariants as param
 use Rattle.lp_program.specs.Adding.{IsPair, IsPart, MayHave}
 use Rattle.lp_program.specs.Answering.{held}
 use Rattle.lp_program.specs.Choosing.{Reading, InlinedChosen, PartChosen}
-use Rattle.lp_program.specs.Looking.{Picks}
 use Rattle.lp_program.specs.Trees.Forest.{bare}
 use Rattle.lp_program.proofs.Adding.{brings_as, brings_at, brings_from, brings_none, brings_not, brings_still, brings_then, brings_when, extends_same, many_more, none_below, one_may, optional_may, pair_may, pairs_more, part_not, part_read, part_start, part_step, reread_no, reread_yes, some_may, step_brings, step_count, step_not, steps_all, steps_not}
-use Rattle.lp_program.proofs.Answering.{answers_yes, answers_no}
+use Rattle.lp_program.proofs.Answering.{answers_yes, answers_no, answers_looked, none_at}
 use Rattle.lp_program.proofs.Beginning.{step_drop}
 use Rattle.lp_program.proofs.Chosen.{part_once}
-use Rattle.lp_program.proofs.Found.{any_begun, below_as, below_none, body_as, either_answers, inlined_added, inlined_answers, inlined_not, member_answers, member_not, optional_answers, optional_none, pair_not, pair_read, seen_lines, some_not, some_read}
+use Rattle.lp_program.proofs.Found.{any_begun, below_as, below_none, body_as, either_answers, inlined_added, inlined_answers, inlined_not, member_answers, member_none, optional_answers, optional_none, pair_not, pair_read, some_not, some_read}
 use Rattle.lp_program.proofs.Looking.{inline_body, same_place, user_body}
 use Rattle.lp_program.proofs.Many.{EachPair, EachPart, pairs_ends, pairs_goes, pairs_stays, pairs_stops, parts_ends, parts_goes, parts_stays, parts_stops, seen_from}
 use Rattle.lp_program.proofs.Opened.{part_chosen, part_unread, part_untold}
@@ -83,15 +82,15 @@ read_step-returns-clause-reads t c =
 
 pub read_step-returns-then-not-branch-clause-chosen : goal.read_step-returns-then-not-branch-clause-chosen
 read_step-returns-then-not-branch-clause-chosen t c =
-    step_unread c.args.depth c.args.at _ c.args.growing.now c.read_own.new.growing c.args.self.now c.read_own.new.self _ c.if-not-branch.true c.in_ok-read_own.ensures.tells
+    step_unread c.args.depth c.args.at _ c.args.growing.now c.read_own.new.growing c.args.self.now c.read_own.new.self _ c.if-not-branch.true c.in_ok-read_own.ensures.looked c.in_ok-read_own.ensures.tells
 
 pub read_step-returns-clause-chosen : goal.read_step-returns-clause-chosen
 read_step-returns-clause-chosen t c =
     IfOk-weaker c.read_below.result _ _
-    (λ b x. step_chosen c.args.depth c.args.at _ c.args.growing.now c.read_own.new.growing c.args.self.now c.read_own.new.self _ b _ c.in_ok-read_own.ensures.kept c.if-not-branch.false c.in_ok-read_own.ensures.tells x) c.read_below.ensures.chosen
+    (λ b x. step_chosen c.args.depth c.args.at _ c.args.growing.now c.read_own.new.growing c.args.self.now c.read_own.new.self _ b _ c.in_ok-read_own.ensures.kept c.in_ok-read_own.ensures.looked c.if-not-branch.false c.in_ok-read_own.ensures.tells x) c.read_below.ensures.chosen
 
 pub read_part-returns-then-depth-eq0-clause-chosen : goal.read_part-returns-then-depth-eq0-clause-chosen
-read_part-returns-then-depth-eq0-clause-chosen t c = too_deep c.args.depth c.args.self.now.prefix.now c.args.part (left c.args.self.now.cursor) (omega arith)
+read_part-returns-then-depth-eq0-clause-chosen t c = too_deep c.args.depth c.args.self.now.prefix.now c.args.part c.args.self.now (omega arith)
 
 pub read_part-returns-then-not-branch-clause-reads : goal.read_part-returns-then-not-branch-clause-reads
 read_part-returns-then-not-branch-clause-reads t c = part_not c.args.part _ _ _ c.args.self.now _ _ _ c.in_ok-growing.ensures c.in_ok-read_steps.ensures.reads
@@ -123,49 +122,49 @@ pub read_below-returns-in-Line-clause-reads : goal.read_below-returns-in-Line-cl
 read_below-returns-in-Line-clause-reads t c = none_below c.args.step _ c.args.self.now c.in-Line.is refl
 
 pub read_below-returns-in-Line-clause-chosen : goal.read_below-returns-in-Line-clause-chosen
-read_below-returns-in-Line-clause-chosen t c = below_none c.args.depth c.args.self.now.prefix.now c.args.step _ (held c.args.at c.args.self.now) c.args.self.now c.in-Line.is (refl, refl)
+read_below-returns-in-Line-clause-chosen t c = below_none c.args.depth c.args.self.now.prefix.now c.args.step _ (held c.args.at c.args.self.now) c.args.self.now c.in-Line.is (λ text. (refl, refl))
 
 pub read_below-returns-in-Each-clause-reads : goal.read_below-returns-in-Each-clause-reads
 read_below-returns-in-Each-clause-reads t c = none_below c.args.step _ c.args.self.now c.in-Each.is refl
 
 pub read_below-returns-in-Each-clause-chosen : goal.read_below-returns-in-Each-clause-chosen
-read_below-returns-in-Each-clause-chosen t c = below_none c.args.depth c.args.self.now.prefix.now c.args.step _ (held c.args.at c.args.self.now) c.args.self.now c.in-Each.is (refl, refl)
+read_below-returns-in-Each-clause-chosen t c = below_none c.args.depth c.args.self.now.prefix.now c.args.step _ (held c.args.at c.args.self.now) c.args.self.now c.in-Each.is (λ text. (refl, refl))
 
 pub read_below-returns-in-Empty-clause-reads : goal.read_below-returns-in-Empty-clause-reads
 read_below-returns-in-Empty-clause-reads t c = none_below c.args.step _ c.args.self.now c.in-Empty.is refl
 
 pub read_below-returns-in-Empty-clause-chosen : goal.read_below-returns-in-Empty-clause-chosen
-read_below-returns-in-Empty-clause-chosen t c = below_none c.args.depth c.args.self.now.prefix.now c.args.step _ (held c.args.at c.args.self.now) c.args.self.now c.in-Empty.is (refl, refl)
+read_below-returns-in-Empty-clause-chosen t c = below_none c.args.depth c.args.self.now.prefix.now c.args.step _ (held c.args.at c.args.self.now) c.args.self.now c.in-Empty.is (λ text. (refl, refl))
 
 pub read_below-returns-in-Note-clause-reads : goal.read_below-returns-in-Note-clause-reads
 read_below-returns-in-Note-clause-reads t c = none_below c.args.step _ c.args.self.now c.in-Note.is refl
 
 pub read_below-returns-in-Note-clause-chosen : goal.read_below-returns-in-Note-clause-chosen
-read_below-returns-in-Note-clause-chosen t c = below_none c.args.depth c.args.self.now.prefix.now c.args.step _ (held c.args.at c.args.self.now) c.args.self.now c.in-Note.is (refl, refl)
+read_below-returns-in-Note-clause-chosen t c = below_none c.args.depth c.args.self.now.prefix.now c.args.step _ (held c.args.at c.args.self.now) c.args.self.now c.in-Note.is (λ text. (refl, refl))
 
 pub read_below-returns-in-NoteAlways-clause-reads : goal.read_below-returns-in-NoteAlways-clause-reads
 read_below-returns-in-NoteAlways-clause-reads t c = none_below c.args.step _ c.args.self.now c.in-NoteAlways.is refl
 
 pub read_below-returns-in-NoteAlways-clause-chosen : goal.read_below-returns-in-NoteAlways-clause-chosen
-read_below-returns-in-NoteAlways-clause-chosen t c = below_none c.args.depth c.args.self.now.prefix.now c.args.step _ (held c.args.at c.args.self.now) c.args.self.now c.in-NoteAlways.is (refl, refl)
+read_below-returns-in-NoteAlways-clause-chosen t c = below_none c.args.depth c.args.self.now.prefix.now c.args.step _ (held c.args.at c.args.self.now) c.args.self.now c.in-NoteAlways.is (λ text. (refl, refl))
 
 pub read_below-returns-in-Use-clause-reads : goal.read_below-returns-in-Use-clause-reads
 read_below-returns-in-Use-clause-reads t c = none_below c.args.step _ c.args.self.now c.in-Use.is refl
 
 pub read_below-returns-in-Use-clause-chosen : goal.read_below-returns-in-Use-clause-chosen
-read_below-returns-in-Use-clause-chosen t c = below_none c.args.depth c.args.self.now.prefix.now c.args.step _ (held c.args.at c.args.self.now) c.args.self.now c.in-Use.is (refl, refl)
+read_below-returns-in-Use-clause-chosen t c = below_none c.args.depth c.args.self.now.prefix.now c.args.step _ (held c.args.at c.args.self.now) c.args.self.now c.in-Use.is (λ text. (refl, refl))
 
 pub read_below-returns-in-Code-clause-reads : goal.read_below-returns-in-Code-clause-reads
 read_below-returns-in-Code-clause-reads t c = none_below c.args.step _ c.args.self.now c.in-Code.is refl
 
 pub read_below-returns-in-Code-clause-chosen : goal.read_below-returns-in-Code-clause-chosen
-read_below-returns-in-Code-clause-chosen t c = below_none c.args.depth c.args.self.now.prefix.now c.args.step _ (held c.args.at c.args.self.now) c.args.self.now c.in-Code.is (refl, refl)
+read_below-returns-in-Code-clause-chosen t c = below_none c.args.depth c.args.self.now.prefix.now c.args.step _ (held c.args.at c.args.self.now) c.args.self.now c.in-Code.is (λ text. (refl, refl))
 
 pub read_below-returns-in-Entries-clause-reads : goal.read_below-returns-in-Entries-clause-reads
 read_below-returns-in-Entries-clause-reads t c = none_below c.args.step _ c.args.self.now c.in-Entries.is refl
 
 pub read_below-returns-in-Entries-clause-chosen : goal.read_below-returns-in-Entries-clause-chosen
-read_below-returns-in-Entries-clause-chosen t c = below_none c.args.depth c.args.self.now.prefix.now c.args.step _ (held c.args.at c.args.self.now) c.args.self.now c.in-Entries.is (refl, refl)
+read_below-returns-in-Entries-clause-chosen t c = below_none c.args.depth c.args.self.now.prefix.now c.args.step _ (held c.args.at c.args.self.now) c.args.self.now c.in-Entries.is (λ text. (refl, refl))
 
 pub read_below-returns-in-Many-clause-chosen : goal.read_below-returns-in-Many-clause-chosen
 read_below-returns-in-Many-clause-chosen t c =
@@ -222,6 +221,25 @@ read_either-returns-clause-reads t c =
     (brings_from (IsPart part.UserBody) c.args.self.now c.read_inlined.new.self b c.read_part.new.self same x))
     c.read_part.ensures.reads
 
+-- a reader that is where it was
+pub read_inlined-returns-clause-reads : goal.read_inlined-returns-clause-reads
+read_inlined-returns-clause-reads t c =
+    let old = c.args.self.now in
+    let Inlined : Reading = InlinedChosen (PartChosen c.args.depth old.prefix.now) in
+    let tried = c.in_ok-read_closed.ensures.reads.extends in
+    let count : c.len-count.result ≡ length old.entries.items = omega (arith, old.entries.ok.0) in
+    record {
+      prefix_is = tried.prefix_is;
+      cursor_is = refl;
+      looked = answers_looked Inlined old _ c.read_closed.new.self c.in_ok-read_closed.ensures.chosen;
+      entries_are = c.truncate.ensures.items ∙ ap (λ es. take c.len-count.result es) tried.entries_are ∙ ap (λ n. take n (old.entries.items ++ tried.more)) count ∙ take-append_seam old.entries.items tried.more;
+    }
+
+pub read_inlined-returns-clause-chosen : goal.read_inlined-returns-clause-chosen
+read_inlined-returns-clause-chosen t c =
+    let Inlined : Reading = InlinedChosen (PartChosen c.args.depth c.args.self.now.prefix.now) in
+    none_at Inlined c.args.self.now c.read_closed.new.self _ refl (answers_no Inlined c.args.self.now _ c.read_closed.new.self c.if-branch.false c.in_ok-read_closed.ensures.chosen)
+
 -- inlined actions, up to a `}`
 pub read_closed-returns-then-not-branch-clause-reads : goal.read_closed-returns-then-not-branch-clause-reads
 read_closed-returns-then-not-branch-clause-reads t c = brings_at (IsPart part.InlineBody) c.args.self.now _ _ _ c.if-not-branch.true c.in_ok-read_part.ensures.reads
@@ -232,12 +250,15 @@ read_closed-returns-then-not-branch-clause-chosen t c =
 
 pub read_closed-returns-clause-reads : goal.read_closed-returns-clause-reads
 read_closed-returns-clause-reads t c =
-    brings_when (IsPart part.InlineBody) c.args.self.now c.closes.result _ (brings_at (IsPart part.InlineBody) c.args.self.now _ _ _ c.if-not-branch.false c.in_ok-read_part.ensures.reads)
+    let first = brings_at (IsPart part.InlineBody) c.args.self.now _ _ c.read_part.new.self c.if-not-branch.false c.in_ok-read_part.ensures.reads in
+    brings_when (IsPart part.InlineBody) c.args.self.now c.closes.result _
+    (brings_still (IsPart part.InlineBody) c.args.self.now c.read_part.new.self _ first (same_place c.read_part.new.self _ c.closes.ensures.kept c.closes.ensures.looked))
 
 pub read_closed-returns-clause-chosen : goal.read_closed-returns-clause-chosen
 read_closed-returns-clause-chosen t c =
     let prefix = c.args.self.now.prefix.now in
-    inlined_answers (PartChosen c.args.depth prefix) c.args.self.now _ _ c.closes.result (part_once c.args.depth prefix) c.if-not-branch.false c.in_ok-read_part.ensures.chosen c.closes.ensures
+    inlined_answers (PartChosen c.args.depth prefix) c.args.self.now _ c.read_part.new.self c.closes.result _ (part_once c.args.depth prefix) c.if-not-branch.false c.in_ok-read_part.ensures.chosen
+    (same_place c.read_part.new.self _ c.closes.ensures.kept c.closes.ensures.looked) c.closes.ensures.exact
 
 -- parts of a class, one after another
 pub read_many-parts-init : goal.read_many-parts-init
@@ -250,9 +271,9 @@ pub read_many-parts-preserved : goal.read_many-parts-preserved
 read_many-parts-preserved t c =
     let old = c.args.self.now in
     let member = rw c.in-Some.is at c.in_ok-part.ensures.member in
-    let same = same_place c.parts.self _ c.in_ok-part.ensures.kept in
+    let same = same_place c.parts.self _ c.in_ok-part.ensures.kept c.in_ok-part.ensures.looked in
     let e = c.parts.invariant.reads.extends.prefix_is in
-    let seen = seen_from c.args.depth c.args.class (Some c.in-Some.part) old c.parts.self _ e same (subst IsUtf8 c.ahead-ahead.ensures c.ahead-ahead.utf8) (rw c.in-Some.is at c.in_ok-part.ensures.exact) in
+    let seen = seen_from c.args.depth c.args.class (Some c.in-Some.part) old c.parts.self _ e same (rw c.in-Some.is at c.in_ok-part.ensures.exact) in
     let was = ap length c.ahead-ahead.ensures in
     let is = ap length c.ahead.ensures in
     let at : length (left c.pick.new.self.cursor) ≡ length (left c.parts.self.cursor) = ap (λ k. length (left k)) same.cursor_is in
@@ -263,22 +284,22 @@ read_many-parts-preserved t c =
 
 pub read_many-returns-in_default-clause-reads : goal.read_many-returns-in_default-clause-reads
 read_many-returns-in_default-clause-reads t c =
-    brings_still (MayHave (step.Many c.args.class)) c.args.self.now c.parts.self _ c.parts.invariant.reads (same_place c.parts.self _ c.in_ok-part.ensures.kept)
+    brings_still (MayHave (step.Many c.args.class)) c.args.self.now c.parts.self _ c.parts.invariant.reads (same_place c.parts.self _ c.in_ok-part.ensures.kept c.in_ok-part.ensures.looked)
 
 pub read_many-returns-in_default-clause-chosen : goal.read_many-returns-in_default-clause-chosen
 read_many-returns-in_default-clause-chosen t c =
     let old = c.args.self.now in
-    let same = same_place c.parts.self _ c.in_ok-part.ensures.kept in
+    let same = same_place c.parts.self _ c.in_ok-part.ensures.kept c.in_ok-part.ensures.looked in
     let e = c.parts.invariant.reads.extends.prefix_is in
-    let seen = seen_from c.args.depth c.args.class None old c.parts.self _ e same (subst IsUtf8 c.ahead-ahead.ensures c.ahead-ahead.utf8) (rw c.in_default.is at c.in_ok-part.ensures.exact) in
+    let seen = seen_from c.args.depth c.args.class None old c.parts.self _ e same (rw c.in_default.is at c.in_ok-part.ensures.exact) in
     parts_ends c.args.depth c.args.class old c.parts.self _ c.parts.invariant.chosen same seen
 
 pub read_many-returns-then-ahead-clause-chosen : goal.read_many-returns-then-ahead-clause-chosen
 read_many-returns-then-ahead-clause-chosen t c =
     let old = c.args.self.now in
-    let same = same_place c.parts.self _ c.in_ok-part.ensures.kept in
+    let same = same_place c.parts.self _ c.in_ok-part.ensures.kept c.in_ok-part.ensures.looked in
     let e = c.parts.invariant.reads.extends.prefix_is in
-    let seen = seen_from c.args.depth c.args.class (Some c.in-Some.part) old c.parts.self _ e same (subst IsUtf8 c.ahead-ahead.ensures c.ahead-ahead.utf8) (rw c.in-Some.is at c.in_ok-part.ensures.exact) in
+    let seen = seen_from c.args.depth c.args.class (Some c.in-Some.part) old c.parts.self _ e same (rw c.in-Some.is at c.in_ok-part.ensures.exact) in
     let was = ap length c.ahead-ahead.ensures in
     let is = ap length c.ahead.ensures in
     let at : length (left c.pick.new.self.cursor) ≡ length (left c.parts.self.cursor) = ap (λ k. length (left k)) same.cursor_is in
@@ -287,15 +308,15 @@ read_many-returns-then-ahead-clause-chosen t c =
 pub read_many-returns-then-not-branch-clause-reads : goal.read_many-returns-then-not-branch-clause-reads
 read_many-returns-then-not-branch-clause-reads t c =
     let member = rw c.in-Some.is at c.in_ok-part.ensures.member in
-    many_more c.args.class c.in-Some.part c.args.self.now c.parts.self _ _ _ c.parts.invariant.reads (same_place c.parts.self _ c.in_ok-part.ensures.kept) member
+    many_more c.args.class c.in-Some.part c.args.self.now c.parts.self _ _ _ c.parts.invariant.reads (same_place c.parts.self _ c.in_ok-part.ensures.kept c.in_ok-part.ensures.looked) member
     (brings_at (IsPart c.in-Some.part) _ _ _ _ c.if-not-branch.true c.in_ok-read_part.ensures.reads)
 
 pub read_many-returns-then-not-branch-clause-chosen : goal.read_many-returns-then-not-branch-clause-chosen
 read_many-returns-then-not-branch-clause-chosen t c =
     let old = c.args.self.now in
-    let same = same_place c.parts.self _ c.in_ok-part.ensures.kept in
+    let same = same_place c.parts.self _ c.in_ok-part.ensures.kept c.in_ok-part.ensures.looked in
     let e = c.parts.invariant.reads.extends.prefix_is in
-    let seen = seen_from c.args.depth c.args.class (Some c.in-Some.part) old c.parts.self _ e same (subst IsUtf8 c.ahead-ahead.ensures c.ahead-ahead.utf8) (rw c.in-Some.is at c.in_ok-part.ensures.exact) in
+    let seen = seen_from c.args.depth c.args.class (Some c.in-Some.part) old c.parts.self _ e same (rw c.in-Some.is at c.in_ok-part.ensures.exact) in
     parts_stops c.args.depth c.args.class c.in-Some.part old c.parts.self _ _ _ e c.parts.invariant.chosen same seen c.if-not-branch.true c.in_ok-read_part.ensures.chosen
 
 -- one part of a class, if there is one
@@ -304,51 +325,48 @@ read_member-returns-in-Some-clause-reads t c =
     let member = rw c.in-Some.is at c.in_ok-part.ensures.member in
     IfOk-weaker c.read_part.result _ _
     (λ b x. brings_as (IsPart c.in-Some.part) (MayHave (step.One c.args.class)) c.args.self.now b c.read_part.new.self (one_may c.args.class c.in-Some.part member)
-    (brings_from (IsPart c.in-Some.part) c.args.self.now _ b c.read_part.new.self (same_place c.args.self.now _ c.in_ok-part.ensures.kept) x))
+    (brings_from (IsPart c.in-Some.part) c.args.self.now _ b c.read_part.new.self (same_place c.args.self.now _ c.in_ok-part.ensures.kept c.in_ok-part.ensures.looked) x))
     c.read_part.ensures.reads
 
 pub read_member-returns-in-None-clause-reads : goal.read_member-returns-in-None-clause-reads
 read_member-returns-in-None-clause-reads t c =
-    brings_not (MayHave (step.One c.args.class)) c.args.self.now _ (extends_same c.args.self.now _ (same_place c.args.self.now _ c.in_ok-part.ensures.kept))
+    brings_not (MayHave (step.One c.args.class)) c.args.self.now _ (extends_same c.args.self.now _ (same_place c.args.self.now _ c.in_ok-part.ensures.kept c.in_ok-part.ensures.looked))
 
 pub read_member-returns-in-Some-clause-chosen : goal.read_member-returns-in-Some-clause-chosen
 read_member-returns-in-Some-clause-chosen t c =
-    let seen = rw c.in-Some.is at c.in_ok-part.ensures.seen in
+    let all = rw c.in-Some.is at c.in_ok-part.ensures.exact in
     IfOk-weaker c.read_part.result _ _
-    (λ b x. member_answers c.args.depth c.args.class c.in-Some.part c.args.self.now _ b c.read_part.new.self (same_place c.args.self.now _ c.in_ok-part.ensures.kept) seen x) c.read_part.ensures.chosen
+    (λ b x. member_answers c.args.depth c.args.class c.in-Some.part c.args.self.now _ b c.read_part.new.self (same_place c.args.self.now _ c.in_ok-part.ensures.kept c.in_ok-part.ensures.looked) all x) c.read_part.ensures.chosen
 
 pub read_member-returns-in-None-clause-chosen : goal.read_member-returns-in-None-clause-chosen
 read_member-returns-in-None-clause-chosen t c =
-    let seen = rw c.in-None.is at c.in_ok-part.ensures.seen in
-    let prefix = c.args.self.now.prefix.now in
-    member_not c.args.depth prefix (PartChosen c.args.depth prefix) c.args.class (left c.args.self.now.cursor) seen
+    let all = rw c.in-None.is at c.in_ok-part.ensures.exact in
+    member_none c.args.depth c.args.class c.args.self.now _ (same_place c.args.self.now _ c.in_ok-part.ensures.kept c.in_ok-part.ensures.looked) all
 
 pub read_optional-returns-in-Some-clause-chosen : goal.read_optional-returns-in-Some-clause-chosen
 read_optional-returns-in-Some-clause-chosen t c =
     let old = c.args.self.now in
-    let u = subst IsUtf8 c.ahead-ahead.ensures c.ahead-ahead.utf8 in
-    let seen = seen_lines (Picks c.args.depth old.prefix.now c.args.class (Some c.in-Some.part)) (left old.cursor) u (rw c.in-Some.is at c.in_ok-part.ensures.exact) in
+    let all = rw c.in-Some.is at c.in_ok-part.ensures.exact in
     IfOk-weaker c.read_part.result _ _
-    (λ b x. optional_answers c.args.depth c.args.class c.in-Some.part old _ b c.read_part.new.self (same_place old _ c.in_ok-part.ensures.kept) seen x) c.read_part.ensures.chosen
+    (λ b x. optional_answers c.args.depth c.args.class c.in-Some.part old _ b c.read_part.new.self (same_place old _ c.in_ok-part.ensures.kept c.in_ok-part.ensures.looked) all x) c.read_part.ensures.chosen
 
 pub read_optional-returns-in-None-clause-chosen : goal.read_optional-returns-in-None-clause-chosen
 read_optional-returns-in-None-clause-chosen t c =
     let old = c.args.self.now in
-    let u = subst IsUtf8 c.ahead-ahead.ensures c.ahead-ahead.utf8 in
-    let seen = seen_lines (Picks c.args.depth old.prefix.now c.args.class None) (left old.cursor) u (rw c.in-None.is at c.in_ok-part.ensures.exact) in
-    optional_none c.args.depth old.prefix.now (PartChosen c.args.depth old.prefix.now) c.args.class old _ (same_place old _ c.in_ok-part.ensures.kept) seen
+    let all = rw c.in-None.is at c.in_ok-part.ensures.exact in
+    optional_none c.args.depth old.prefix.now (PartChosen c.args.depth old.prefix.now) c.args.class old _ (same_place old _ c.in_ok-part.ensures.kept c.in_ok-part.ensures.looked) all
 
 pub read_optional-returns-in-Some-clause-reads : goal.read_optional-returns-in-Some-clause-reads
 read_optional-returns-in-Some-clause-reads t c =
     let member = rw c.in-Some.is at c.in_ok-part.ensures.member in
     IfOk-weaker c.read_part.result _ _
     (λ b x. brings_as (IsPart c.in-Some.part) (MayHave (step.Optional c.args.class)) c.args.self.now b c.read_part.new.self (optional_may c.args.class c.in-Some.part member)
-    (brings_from (IsPart c.in-Some.part) c.args.self.now _ b c.read_part.new.self (same_place c.args.self.now _ c.in_ok-part.ensures.kept) x))
+    (brings_from (IsPart c.in-Some.part) c.args.self.now _ b c.read_part.new.self (same_place c.args.self.now _ c.in_ok-part.ensures.kept c.in_ok-part.ensures.looked) x))
     c.read_part.ensures.reads
 
 pub read_optional-returns-in-None-clause-reads : goal.read_optional-returns-in-None-clause-reads
 read_optional-returns-in-None-clause-reads t c =
-    brings_none (MayHave (step.Optional c.args.class)) c.args.self.now _ refl (same_place c.args.self.now _ c.in_ok-part.ensures.kept)
+    brings_none (MayHave (step.Optional c.args.class)) c.args.self.now _ refl (same_place c.args.self.now _ c.in_ok-part.ensures.kept c.in_ok-part.ensures.looked)
 
 pub read_some-returns-clause-reads : goal.read_some-returns-clause-reads
 read_some-returns-clause-reads t c =
@@ -397,9 +415,9 @@ pub read_pairs-pairs-preserved : goal.read_pairs-pairs-preserved
 read_pairs-pairs-preserved t c =
     let old = c.args.self.now in
     let member = rw c.in-Some.is at c.in_ok-part.ensures.member in
-    let same = same_place c.pairs.self _ c.in_ok-part.ensures.kept in
+    let same = same_place c.pairs.self _ c.in_ok-part.ensures.kept c.in_ok-part.ensures.looked in
     let e = c.pairs.invariant.reads.extends.prefix_is in
-    let seen = seen_from c.args.depth c.args.first (Some c.in-Some.part) old c.pairs.self _ e same (subst IsUtf8 c.ahead-ahead.ensures c.ahead-ahead.utf8) (rw c.in-Some.is at c.in_ok-part.ensures.exact) in
+    let seen = seen_from c.args.depth c.args.first (Some c.in-Some.part) old c.pairs.self _ e same (rw c.in-Some.is at c.in_ok-part.ensures.exact) in
     let was = ap length c.ahead-ahead.ensures in
     let is = ap length c.ahead.ensures in
     let at : length (left c.pick.new.self.cursor) ≡ length (left c.pairs.self.cursor) = ap (λ k. length (left k)) same.cursor_is in
@@ -410,22 +428,22 @@ read_pairs-pairs-preserved t c =
 
 pub read_pairs-returns-in_default-clause-reads : goal.read_pairs-returns-in_default-clause-reads
 read_pairs-returns-in_default-clause-reads t c =
-    brings_still (MayHave (step.Pairs c.args.first c.args.second)) c.args.self.now c.pairs.self _ c.pairs.invariant.reads (same_place c.pairs.self _ c.in_ok-part.ensures.kept)
+    brings_still (MayHave (step.Pairs c.args.first c.args.second)) c.args.self.now c.pairs.self _ c.pairs.invariant.reads (same_place c.pairs.self _ c.in_ok-part.ensures.kept c.in_ok-part.ensures.looked)
 
 pub read_pairs-returns-in_default-clause-chosen : goal.read_pairs-returns-in_default-clause-chosen
 read_pairs-returns-in_default-clause-chosen t c =
     let old = c.args.self.now in
-    let same = same_place c.pairs.self _ c.in_ok-part.ensures.kept in
+    let same = same_place c.pairs.self _ c.in_ok-part.ensures.kept c.in_ok-part.ensures.looked in
     let e = c.pairs.invariant.reads.extends.prefix_is in
-    let seen = seen_from c.args.depth c.args.first None old c.pairs.self _ e same (subst IsUtf8 c.ahead-ahead.ensures c.ahead-ahead.utf8) (rw c.in_default.is at c.in_ok-part.ensures.exact) in
+    let seen = seen_from c.args.depth c.args.first None old c.pairs.self _ e same (rw c.in_default.is at c.in_ok-part.ensures.exact) in
     pairs_ends c.args.depth c.args.at c.args.first c.args.second old c.pairs.self _ c.pairs.invariant.chosen same seen
 
 pub read_pairs-returns-then-ahead-clause-chosen : goal.read_pairs-returns-then-ahead-clause-chosen
 read_pairs-returns-then-ahead-clause-chosen t c =
     let old = c.args.self.now in
-    let same = same_place c.pairs.self _ c.in_ok-part.ensures.kept in
+    let same = same_place c.pairs.self _ c.in_ok-part.ensures.kept c.in_ok-part.ensures.looked in
     let e = c.pairs.invariant.reads.extends.prefix_is in
-    let seen = seen_from c.args.depth c.args.first (Some c.in-Some.part) old c.pairs.self _ e same (subst IsUtf8 c.ahead-ahead.ensures c.ahead-ahead.utf8) (rw c.in-Some.is at c.in_ok-part.ensures.exact) in
+    let seen = seen_from c.args.depth c.args.first (Some c.in-Some.part) old c.pairs.self _ e same (rw c.in-Some.is at c.in_ok-part.ensures.exact) in
     let was = ap length c.ahead-ahead.ensures in
     let is = ap length c.ahead.ensures in
     let at : length (left c.pick.new.self.cursor) ≡ length (left c.pairs.self.cursor) = ap (λ k. length (left k)) same.cursor_is in
@@ -434,13 +452,13 @@ read_pairs-returns-then-ahead-clause-chosen t c =
 pub read_pairs-returns-then-not-branch-clause-reads : goal.read_pairs-returns-then-not-branch-clause-reads
 read_pairs-returns-then-not-branch-clause-reads t c =
     let member = rw c.in-Some.is at c.in_ok-part.ensures.member in
-    pairs_more c.args.first c.args.second c.in-Some.part c.args.self.now c.pairs.self _ _ _ c.pairs.invariant.reads (same_place c.pairs.self _ c.in_ok-part.ensures.kept) member
+    pairs_more c.args.first c.args.second c.in-Some.part c.args.self.now c.pairs.self _ _ _ c.pairs.invariant.reads (same_place c.pairs.self _ c.in_ok-part.ensures.kept c.in_ok-part.ensures.looked) member
     (brings_at (IsPair c.in-Some.part c.args.second) _ _ _ _ c.if-not-branch.true c.in_ok-read_pair.ensures.reads)
 
 pub read_pairs-returns-then-not-branch-clause-chosen : goal.read_pairs-returns-then-not-branch-clause-chosen
 read_pairs-returns-then-not-branch-clause-chosen t c =
     let old = c.args.self.now in
-    let same = same_place c.pairs.self _ c.in_ok-part.ensures.kept in
+    let same = same_place c.pairs.self _ c.in_ok-part.ensures.kept c.in_ok-part.ensures.looked in
     let e = c.pairs.invariant.reads.extends.prefix_is in
-    let seen = seen_from c.args.depth c.args.first (Some c.in-Some.part) old c.pairs.self _ e same (subst IsUtf8 c.ahead-ahead.ensures c.ahead-ahead.utf8) (rw c.in-Some.is at c.in_ok-part.ensures.exact) in
+    let seen = seen_from c.args.depth c.args.first (Some c.in-Some.part) old c.pairs.self _ e same (rw c.in-Some.is at c.in_ok-part.ensures.exact) in
     pairs_stops c.args.depth c.args.at c.args.first c.args.second c.in-Some.part old c.pairs.self _ _ _ c.requires e c.pairs.invariant.chosen same seen c.if-not-branch.true c.in_ok-read_pair.ensures.chosen

@@ -1,6 +1,7 @@
-use Rattle.std.proofs.Common.{Some, refl, ap, sym, ◌∙◌, rules}
+use Rattle.std.proofs.Common.{Some, arith, refl, ap, sym, ◌∙◌, rules}
 use Rattle.lp_spelling.specs.Cursors.{left}
 use Rattle.lp_program.proofs.Growing.{grows_table}
+use Rattle.lp_program.proofs.Nearby.{no_table_like, table_like}
 use Rattle.lp_program.proofs.read.reader.Reader.entries_taken.Goals as goal
 
 pub returns-in-Whole : goal.returns-in-Whole
@@ -11,8 +12,14 @@ returns-in-Whole c =
         grows = grows_table c.args.self.now.prefix.now c.args.growing.now _ refl refl refl (search rules);
         takes = λ content m. taken.1 ∙ ap (λ n. Some (n, left c.in-Whole.place)) (sym (m.numbers refl));
       };
-      tells = record { first = search rules; reads = taken.1; new_is = refl };
+      tells = λ n le far text like.
+          let x = table_like n c.args.self.now.cursor c.in-Whole.place text _ taken.0 taken.1 far like in
+          (x.0, record { first = search rules; reads = x.1; new_is = refl }, x.2);
     }
 
 pub returns-in-Broken-clause-tells : goal.returns-in-Broken-clause-tells
-returns-in-Broken-clause-tells c = λ new rest t. let taken = rw c.in-Broken.is at c.in_ok-taken.ensures in let read = t.reads in cc
+returns-in-Broken-clause-tells c = λ n le far text like new rest t.
+    let taken = rw c.in-Broken.is at c.in_ok-taken.ensures in
+    let none = no_table_like n c.in-Broken.place c.args.self.now.cursor text taken.1 (omega (arith, c.line_from.ensures, far)) like in
+    let read = t.reads in
+    cc

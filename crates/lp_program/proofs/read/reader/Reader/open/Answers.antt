@@ -8,6 +8,7 @@ returns c =
     record {
       prefix_is = refl;
       cursor_is = refl;
+      looked_is = refl;
       first = first;
       first_is = refl;
       notes_are = c.new-3.ensures.items;

@@ -1,6 +1,7 @@
 use Rattle.std.proofs.Common.{length}
 use Rattle.lp_form.specs.Templates.{holes_of}
-use Rattle.lp_program.proofs.Telling.{blank_not, blank_part}
+use Rattle.lp_program.specs.Telling.{told}
+use Rattle.lp_program.proofs.Telling.{blank_not, blank_part, use_told, no_use_told}
 use Rattle.lp_program.proofs.read.reader.Reader.use_taken.Goals as goal
 
 pub use_step-requires : goal.use_step-requires
@@ -10,12 +11,17 @@ use_step-requires c =
 
 pub returns-then-not-is_blank_part-clause-tells : goal.returns-then-not-is_blank_part-clause-tells
 returns-then-not-is_blank_part-clause-tells c =
-    λ new rest t. blank_not (length (holes_of c.args.growing.now.part)) (length c.args.growing.now.holes.items) _ c.is_blank_part.ensures c.if-not-is_blank_part.true t.bare t.first
+    λ n le far text like new rest t. blank_not (length (holes_of c.args.growing.now.part)) (length c.args.growing.now.holes.items) _ c.is_blank_part.ensures c.if-not-is_blank_part.true t.bare t.first
 
 pub returns-in-Some : goal.returns-in-Some
 returns-in-Some c =
     let step = rw c.in-Some.is at c.in_ok-place.ensures in
-    record { takes = λ count pieces. record { grows = step.grows c.args.self.now.prefix.now; takes = step.takes }; tells = step.tells }
+    record {
+      takes = λ count pieces. record { grows = step.grows c.args.self.now.prefix.now; takes = step.takes };
+      tells = λ n le far text like. use_told n c.args.self.now.cursor c.in-Some.place text c.args.growing.now.part (told c.args.growing.now) _ step.tells step.same le far like;
+    }
 
 pub returns-in-None-clause-tells : goal.returns-in-None-clause-tells
-returns-in-None-clause-tells c = let step = rw c.in-None.is at c.in_ok-place.ensures in step.tells
+returns-in-None-clause-tells c =
+    let step = rw c.in-None.is at c.in_ok-place.ensures in
+    λ n le far text like. no_use_told n c.args.self.now.cursor text c.args.growing.now.part (told c.args.growing.now) _ _ _ step.tells c.start.ensures.start c.saturating_add-from.ensures c.cut_line.ensures le far like
