@@ -6,6 +6,7 @@ use Rattle.lp_form.specs.Templates.{steps_of}
 use Rattle.lp_tree.specs.declared.tree.Entry.{Entry}
 use Rattle.lp_program.specs.Trees.{Content, content, forest, forest_within, whole}
 use Rattle.lp_program.specs.Trees.Forest.{bare, tree}
+use Rattle.lp_program.proofs.Whole.{refused_itself}
 use Rattle.lp_chosen.specs.Laws.{have_table, told_content, told_trees, EachIsTold, SomeIsChosen, NeverRefused}
 use Rattle.lp_chosen.proofs.Law.{programs_are_chosen}
 
@@ -71,4 +72,4 @@ some_is_chosen text program u r =
     (t.0, programs_are_chosen text program t.0 u r t.1 t.2)
 
 pub never_refused : NeverRefused
-never_refused text program line u r refused = let c = some_is_chosen text program u r in refused c.0 c.1
+never_refused text program line u r refused = let c = some_is_chosen text program u r in refused_itself text line u refused c.0 c.1
