@@ -307,10 +307,10 @@ pub line_like : (n : ℕ) (c next : Cursor) (text prefix : List ℕ) (kinds : Li
 line_like n c next text prefix kinds pieces old new t same le like = elim (next_same n c text le like) [
   | inl none ↦ absurd (omega (arith, ap length none.0, t.takes.some))
   | inr some ↦ (
-      behind_line (settled text),
-      record { line = t.line; takes = record { some = some.1; line_is = some.2 ∙ t.takes.line_is; rest_is = refl }; reads = t.reads; fills = t.fills; others = t.others },
-      moves_line n c next text same t.takes.rest_is le like,
-    )
+    behind_line (settled text),
+    record { line = t.line; takes = record { some = some.1; line_is = some.2 ∙ t.takes.line_is; rest_is = refl }; reads = t.reads; fills = t.fills; others = t.others },
+    moves_line n c next text same t.takes.rest_is le like,
+  )
 ]
 
 pub no_line_like : (n : ℕ) (c : Cursor) (text prefix : List ℕ) (kinds : List Kind) (pieces : List Piece) (old : Told) → NotTold (λ x rest. TellsLine prefix kinds pieces old x (left c) rest) → next_number c ≤ n → Like n c text →

@@ -88,10 +88,14 @@ pub fn read_program<'t>(alloc: Global, text: &'t str) -> Result<Program<'t>, Rea
         entries: Vec::new(alloc),
     };
     if !reader.read_whole()? {
-        return Err(ReadFault::NoForm { line: reader.looked });
+        return Err(ReadFault::NoForm {
+            line: reader.looked,
+        });
     }
     let Some(prefix) = shown else {
-        return Err(ReadFault::NoForm { line: reader.looked });
+        return Err(ReadFault::NoForm {
+            line: reader.looked,
+        });
     };
     let Reader { entries, .. } = reader;
     Ok(Program {
