@@ -4,15 +4,16 @@ use Rattle.std.specs.List.{starts_with}
 use Rattle.std.specs.Str.{IsUtf8, IsCharBoundary, chars, encode_utf8_all}
 use Rattle.std.proofs.lemmas.List.{append_cancel_right, take_at, drop_at}
 use Rattle.std.proofs.lemmas.Str.{encodes-chars, IsUtf8-take, IsUtf8-drop, IsCharBoundary-at_seam, IsCharBoundary-from_take}
-use Rattle.lp_tok.specs.Cut.{StopsAt}
-use Rattle.lp_tok.proofs.CutSteps.{stops_same}
+use Rattle.lp_tok.specs.declared.tok.ErrorCode.TheVariants.{ExpectedStringLiteral}
+use Rattle.lp_tok.specs.Cut.{StopsAt, BreaksAt}
+use Rattle.lp_tok.proofs.CutSteps.{stops_same, stops_breaks}
 use Rattle.lp_spelling.specs.Counting.{feeds, settled}
 use Rattle.lp_spelling.proofs.Reading.{starts_ok}
 use Rattle.lp_local.specs.Agreeing.{Agree, lines_before}
 use Rattle.lp_local.specs.Beginning.{is_line_end}
 use Rattle.lp_local.proofs.Agreeing.{feeds-append, before_rest, agree_back, agree_behind, Shared, shared_front, starts_shared}
 use Rattle.lp_local.proofs.Settling.{Left, settled_left, behind_byte, from_byte, SettledShared, settled_shared}
-use Rattle.lp_local.proofs.Codes.{CutShared, cut_shared, line_end_shared}
+use Rattle.lp_local.proofs.Codes.{CutShared, cut_shared, BreakShared, break_shared, line_end_shared}
 
 -- two parts of a text, of which one is of whole characters
 pub utf8_before : (x y : List ℕ) → IsUtf8 (x ++ y) → IsUtf8 y → IsUtf8 x
@@ -97,3 +98,30 @@ use_back n left x y b used rest u ub e v stops lt h f there ends =
       closed = q.b_is;
       ends = sym (line_end_shared (j - 1) rest q.rest (subst (λ i. Agree i rest q.rest) next q.agree)) ∙ ends;
     }
+
+-- where the cut breaks on one of the first lines, at what no text behind it mends, the other text's cut breaks there too, and stops nowhere
+pub code_broken : (n : ℕ) (left x y b rest : List ℕ) → IsUtf8 left → left ≡ x ++ y → IsUtf8 y → BreaksAt (chars left) ExpectedStringLiteral (chars y) → lines_before left y < n → Agree n left b → StopsAt (chars b) rest → ⊥
+code_broken n left x y b rest u e v breaks lt h there =
+    let before : lines_before left y ≡ feeds x = before_rest x y left e in
+    let s : BreakShared n x y b =
+    break_shared n x y b (utf8_before x y (subst (λ (t : List ℕ). IsUtf8 t) e u) v) v (omega (arith, before, lt)) (subst (λ (t : List ℕ). BreaksAt (chars t) ExpectedStringLiteral (chars y)) e breaks)
+    (subst (λ (t : List ℕ). Agree n t b) e h) in
+    stops_breaks (chars b) rest (chars s.other) ExpectedStringLiteral there s.breaks
+
+-- behind `use `
+pub use_broken : (n : ℕ) (left x y b w rest : List ℕ) → IsUtf8 left → settled left ≡ codes "use " ++ (x ++ y) → IsUtf8 y → BreaksAt (chars (x ++ y)) ExpectedStringLiteral (chars y) → lines_before left y < n → Agree n left b →
+    settled b ≡ codes "use " ++ w → StopsAt (chars w) rest → ⊥
+use_broken n left x y b w rest u e v breaks lt h f there =
+    let l : Left left (settled left) = settled_left left u in
+    let one : feeds left ≡ feeds l.front + feeds (settled left) = ap feeds l.whole ∙ feeds-append l.front (settled left) in
+    let two : feeds (settled left) ≡ feeds (codes "use ") + feeds (x ++ y) = ap feeds e ∙ feeds-append (codes "use ") (x ++ y) in
+    let three : feeds (x ++ y) ≡ feeds x + feeds y = feeds-append x y in
+    let none : feeds (codes "use ") ≡ 0 = refl in
+    let size : length (settled left) ≡ length (codes "use ") + length (x ++ y) = ap length e ∙ length-append (codes "use ") (x ++ y) in
+    let four : length (codes "use ") ≡ 4 = refl in
+    let s : SettledShared n left b = settled_shared n left b u (omega (arith, size, four)) (omega (arith, one, two, three, lt)) h in
+    let k : ℕ = n - lines_before left (settled left) in
+    let both : Agree k (codes "use " ++ (x ++ y)) (codes "use " ++ w) = subst (λ (t : List ℕ). Agree k (codes "use " ++ (x ++ y)) t) f (subst (λ (t : List ℕ). Agree k t (settled b)) e s.agree) in
+    let agree : Agree (k - feeds (codes "use ")) (x ++ y) w = agree_behind k (codes "use ") (x ++ y) w (omega (arith, one, two, three, none, lt)) both in
+    let ux : IsUtf8 (x ++ y) = behind_byte (codes "use") 32 (x ++ y) (omega arith) (subst (λ (t : List ℕ). IsUtf8 t) e s.utf8) in
+    code_broken (k - feeds (codes "use ")) (x ++ y) x y w rest ux refl v breaks (omega (arith, one, two, three, none, lt)) agree there

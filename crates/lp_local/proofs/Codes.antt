@@ -4,7 +4,8 @@ use Rattle.std.specs.List.{starts_with}
 use Rattle.std.specs.Str.{IsUtf8, chars}
 use Rattle.std.proofs.lemmas.Bool.{ne_eqb}
 use Rattle.std.proofs.lemmas.Str.{chars-append}
-use Rattle.lp_tok.specs.Cut.{StopsAt}
+use Rattle.lp_tok.specs.declared.tok.ErrorCode.TheVariants.{ExpectedStringLiteral}
+use Rattle.lp_tok.specs.Cut.{StopsAt, BreaksAt}
 use Rattle.lp_spelling.specs.Counting.{feeds, settled}
 use Rattle.lp_spelling.proofs.Reading.{starts_ok}
 use Rattle.lp_local.specs.Agreeing.{Agree, lines_before}
@@ -12,7 +13,7 @@ use Rattle.lp_local.specs.Beginning.{BeginsAs, is_line_end}
 use Rattle.lp_local.proofs.Agreeing.{feeds-append, before_rest, Shared, shared_front, line_shared, starts_shared}
 use Rattle.lp_local.proofs.Settling.{Left, settled_left, behind_byte, from_byte, before_byte, SettledShared, settled_shared}
 use Rattle.lp_local.proofs.Scanning.{begins_itself, begins_behind}
-use Rattle.lp_local.proofs.Cutting.{stops_told}
+use Rattle.lp_local.proofs.Cutting.{stops_told, breaks_told}
 
 -- the characters of a line, its line feed, and those behind it
 chars_feed : (r : List ℕ) → chars (10 ∷ r) ≡ 10 ∷ chars r
@@ -54,6 +55,28 @@ cut_shared n whole rest b u v lt stops h =
       other = s.rest;
       b_is = s.b_is;
       stops = subst (λ (x : List ℕ). StopsAt x (chars s.rest)) (sym (ap chars s.b_is ∙ chars-append whole s.rest u)) there;
+      agree = s.agree;
+    }
+
+-- a cut that breaks in both texts, at what no text behind it mends
+pub record BreakShared (n : ℕ) (whole rest b : List ℕ) : Type 0 where
+  pub other : List ℕ
+  pub b_is : b ≡ whole ++ other
+  pub breaks : BreaksAt (chars b) ExpectedStringLiteral (chars other)
+  pub agree : Agree (n - feeds whole) rest other
+
+pub break_shared : (n : ℕ) (whole rest b : List ℕ) → IsUtf8 whole → IsUtf8 rest → feeds whole < n → BreaksAt (chars (whole ++ rest)) ExpectedStringLiteral (chars rest) → Agree n (whole ++ rest) b → BreakShared n whole rest b
+break_shared n whole rest b u v lt breaks h =
+    let s : Shared (n - feeds whole) whole rest b = shared_front n whole rest b lt h in
+    let k : ℕ = n - feeds whole - 1 in
+    let next : n - feeds whole ≡ suc k = omega arith in
+    let begun : BeginsAs (chars rest) (chars s.rest) = begins_shared k rest s.rest v (subst (λ i. Agree i rest s.rest) next s.agree) in
+    let cut : BreaksAt (chars whole ++ chars rest) ExpectedStringLiteral (chars rest) = subst (λ (x : List ℕ). BreaksAt x ExpectedStringLiteral (chars rest)) (chars-append whole rest u) breaks in
+    let there : BreaksAt (chars whole ++ chars s.rest) ExpectedStringLiteral (chars s.rest) = breaks_told (chars whole) (chars rest) (chars s.rest) begun cut in
+    record {
+      other = s.rest;
+      b_is = s.b_is;
+      breaks = subst (λ (x : List ℕ). BreaksAt x ExpectedStringLiteral (chars s.rest)) (sym (ap chars s.b_is ∙ chars-append whole s.rest u)) there;
       agree = s.agree;
     }
 

@@ -1,11 +1,12 @@
 -- A cut that stops in front of a text stops in front of each text that begins alike.
 use Rattle.std.proofs.Common.{◌≡◌, ℕ, List, [], ◌∷◌, ◌++◌, refl, sym, ap, ◌∙◌, subst, inl, inr, append_assoc}
 use Rattle.std.proofs.lemmas.List.{append_cancel_right}
-use Rattle.lp_tok.specs.CodePieces.{Whole, Nothing, kind_of, code_piece}
-use Rattle.lp_tok.specs.Cut.{Splits, splits_none, splits_one, IsEnder, MayEnd, StopsAt}
+use Rattle.lp_tok.specs.declared.tok.ErrorCode.TheVariants.{ExpectedStringLiteral}
+use Rattle.lp_tok.specs.CodePieces.{Whole, Fault, Nothing, kind_of, code_piece}
+use Rattle.lp_tok.specs.Cut.{Splits, splits_none, splits_one, IsEnder, MayEnd, StopsAt, BreaksAt}
 use Rattle.lp_local.specs.Beginning.{BeginsAs}
 use Rattle.lp_local.proofs.Scanning.{nothing_begins, begins_behind}
-use Rattle.lp_local.proofs.Piecing.{Told, piece_told, IsUncounted, piece_class}
+use Rattle.lp_local.proofs.Piecing.{Told, piece_told, fault_told, IsUncounted, piece_class}
 
 -- pieces up to a place
 record Parted (splits : List ℕ → List ℕ → Type 0) (cs rest : List ℕ) : Type 0 where
@@ -56,3 +57,14 @@ stops_told front rest y b s =
     let t : Parted (λ u v. Splits u s.0 v) (front ++ rest) rest = splits_told (front ++ rest) rest s.0 s.1.splits in
     let same : t.front ≡ front = append_cancel_right t.front front rest (sym t.whole) in
     (s.0, record { splits = subst (λ (x : List ℕ). Splits (x ++ y) s.0 y) same (t.again y b); goes_on = s.1.goes_on }, s.2, may_end_told rest y b s.3)
+
+-- and one that breaks at `r#`, where neither a raw string nor a word follows, breaks there in each text that begins alike
+pub breaks_told : (front next y : List ℕ) → BeginsAs next y → BreaksAt (front ++ next) ExpectedStringLiteral next → BreaksAt (front ++ y) ExpectedStringLiteral y
+breaks_told front next y b s =
+    let t : Parted (λ u v. Splits u s.0 v) (front ++ next) s.1 = splits_told (front ++ next) s.1 s.0 s.2.splits in
+    let p : Told code_piece (Fault ExpectedStringLiteral) s.1 next = fault_told s.1 next s.3 in
+    let mid : List ℕ = p.front ++ y in
+    let begun : BeginsAs s.1 mid = subst (λ (x : List ℕ). BeginsAs x mid) (sym p.whole) (begins_behind p.front next y b) in
+    let same : t.front ++ p.front ≡ front = append_cancel_right (t.front ++ p.front) front next (append_assoc t.front p.front next ∙ sym (ap (λ (x : List ℕ). t.front ++ x) p.whole) ∙ sym t.whole) in
+    let whole : t.front ++ mid ≡ front ++ y = sym (append_assoc t.front p.front y) ∙ ap (λ (x : List ℕ). x ++ y) same in
+    subst (λ (x : List ℕ). BreaksAt x ExpectedStringLiteral y) whole (s.0, mid, record { splits = t.again mid begun; goes_on = s.2.goes_on }, p.again y b)

@@ -3,7 +3,8 @@ use Rattle.std.proofs.Common.{◌≡◌, ℕ, ℤ, ◌+◌, ◌-◌, ◌<◌, su
 use Rattle.std.specs.List.{starts_with}
 use Rattle.std.specs.Str.{IsUtf8, chars}
 use Rattle.std.proofs.lemmas.Bool.{both_ways}
-use Rattle.lp_tok.specs.Cut.{StopsAt}
+use Rattle.lp_tok.specs.declared.tok.ErrorCode.TheVariants.{ExpectedStringLiteral}
+use Rattle.lp_tok.specs.Cut.{StopsAt, BreaksAt}
 use Rattle.lp_spelling.specs.Counting.{front_line, behind_line, feeds, settled}
 use Rattle.lp_spelling.specs.TableReading.{entries, IsBroken}
 use Rattle.lp_spelling.proofs.Reading.{starts_ok}
@@ -12,7 +13,7 @@ use Rattle.lp_local.specs.Beginning.{is_line_end}
 use Rattle.lp_local.proofs.Agreeing.{feeds_feed, feeds-append, before_rest, before_on, agree_all, Shared, shared_front, split_first, line_behind, line_none, line_told, starts_shared}
 use Rattle.lp_local.proofs.Settling.{Left, settled_left, behind_byte, from_byte, SettledShared, settled_shared}
 use Rattle.lp_local.proofs.Codes.{CodeShared, code_shared, UseShared, use_shared}
-use Rattle.lp_local.proofs.Back.{utf8_before, utf8_behind, code_back, UseBack, use_back}
+use Rattle.lp_local.proofs.Back.{utf8_before, utf8_behind, code_back, UseBack, use_back, code_broken, use_broken}
 use Rattle.lp_local.proofs.Tables.{EntriesShared, entries_shared, entries_left}
 use Rattle.lp_local.proofs.Broken.{broken_left, entries_broken}
 
@@ -172,6 +173,13 @@ near_no_code n text left other x y near e u stops none lt whole behind f there c
     let back = code_back (n - lines_before text left) left x y other whole behind near.is_left.utf8 near.utf8 e u stops (near_fewer n text left y near.is_left r lt) near.agree f there closes in
     both_ways (starts_with eqb y (codes "}")) none back.1
 
+-- none, where the cut breaks at what no text behind it mends: the other cut stops nowhere
+pub near_broken_code : (n : ℕ) (text left other x y : List ℕ) → Near n text left other → left ≡ x ++ y → IsUtf8 y → BreaksAt (chars left) ExpectedStringLiteral (chars y) → lines_before text y < n →
+    (rest : List ℕ) → StopsAt (chars other) rest → ⊥
+near_broken_code n text left other x y near e u breaks lt rest there =
+    let r : Left left y = record { utf8 = u; front = x; whole = e } in
+    code_broken (n - lines_before text left) left x y other rest near.is_left.utf8 e u breaks (near_fewer n text left y near.is_left r lt) near.agree there
+
 -- uses
 pub record NearUse (n : ℕ) (text used rest other : List ℕ) : Type 0 where
   pub behind : List ℕ
@@ -216,6 +224,14 @@ near_use_back n text left other x y used behind near e u stops lt f there ends =
     let l : Left left (settled left) = settled_left left near.is_left.utf8 in
     let r : Left left y = left_again left (settled left) y l (record { utf8 = u; front = codes "use " ++ x; whole = e ∙ sym (append_assoc (codes "use ") x y) }) in
     use_back (n - lines_before text left) left x y other used behind near.is_left.utf8 near.utf8 e u stops (near_fewer n text left y near.is_left r lt) near.agree f there ends
+
+-- none, where the cut behind `use ` breaks at what no text behind it mends
+pub near_broken_use : (n : ℕ) (text left other x y : List ℕ) → Near n text left other → settled left ≡ codes "use " ++ (x ++ y) → IsUtf8 y → BreaksAt (chars (x ++ y)) ExpectedStringLiteral (chars y) → lines_before text y < n →
+    (behind rest : List ℕ) → settled other ≡ codes "use " ++ behind → StopsAt (chars behind) rest → ⊥
+near_broken_use n text left other x y near e u breaks lt behind rest f there =
+    let l : Left left (settled left) = settled_left left near.is_left.utf8 in
+    let r : Left left y = left_again left (settled left) y l (record { utf8 = u; front = codes "use " ++ x; whole = e ∙ sym (append_assoc (codes "use ") x y) }) in
+    use_broken (n - lines_before text left) left x y other behind rest near.is_left.utf8 e u breaks (near_fewer n text left y near.is_left r lt) near.agree f there
 
 -- tables
 pub record NearTable (n : ℕ) (text : List ℕ) (numbers : List ℤ) (rest other : List ℕ) : Type 0 where

@@ -254,6 +254,113 @@ piece_moved k front next y h b =
     let same : t.front ≡ front = append_cancel_right t.front front next (sym t.whole) in
     ap (λ (x : List ℕ). code_piece (x ++ y)) (sym same) ∙ t.again y b
 
+-- `r#` that begins neither a raw string nor a word; no other piece is that fault
+ended_other : (code : ErrorCode) (start next : List ℕ) (o : Option (List ℕ)) → (code ≡ ExpectedStringLiteral → ⊥) → ended code start o ≡ Fault ExpectedStringLiteral next → ⊥
+ended_other code start next None other h = let same : code ≡ ExpectedStringLiteral = cc in other same
+ended_other code start next (Some after) other h = cc
+
+quoted_other : (start cs next : List ℕ) → quoted_piece start cs ≡ Fault ExpectedStringLiteral next → ⊥
+quoted_other start [] next h = cc
+quoted_other start (c ∷ cs) next h = cc
+
+raw_string_other : (start next : List ℕ) (o : Option RawEnd) → raw_string_piece start o ≡ Fault ExpectedStringLiteral next → ⊥
+raw_string_other start next None h = cc
+raw_string_other start next (Some e) h = cc
+
+slash_other : (start cs next : List ℕ) → slash_piece start cs ≡ Fault ExpectedStringLiteral next → ⊥
+slash_other start [] next h = cc
+slash_other start (d ∷ m) next h = elim (cases_Bool (d == slash)) [
+  | inl s ↦
+      let step : slash_piece start (d ∷ m) ≡ Whole (kind_of 97) (from_char line_feed m) = cond-true (d == slash) _ _ s in
+      let never : Whole (kind_of 97) (from_char line_feed m) ≡ Fault ExpectedStringLiteral next = sym step ∙ h in
+      cc
+  | inr s ↦ elim (cases_Bool (d == star)) [
+    | inl t ↦
+        let step : slash_piece start (d ∷ m) ≡ ended UnterminatedBlockComment start (after_comment 0 m) = cond-false (d == slash) _ _ s ∙ cond-true (d == star) _ _ t in
+        ended_other UnterminatedBlockComment start next (after_comment 0 m) (λ e. cc) (sym step ∙ h)
+    | inr t ↦
+        let step : slash_piece start (d ∷ m) ≡ Whole (kind_of 97) (d ∷ m) = cond-false (d == slash) _ _ s ∙ cond-false (d == star) _ _ t in
+        let never : Whole (kind_of 97) (d ∷ m) ≡ Fault ExpectedStringLiteral next = sym step ∙ h in
+        cc
+  ]
+]
+
+-- what is wrong behind the hashes is wrong by its first character
+wrong_again : (start : List ℕ) (n c : ℕ) (cs y : List ℕ) → (c == quote) ≡ false → starts_word c ≡ false → BeginsAs (c ∷ cs) y → hashed_piece start n y ≡ Fault ExpectedStringLiteral y
+wrong_again start n c cs [] q w b = absurd b
+wrong_again start n c cs (d ∷ y) q w b = cond-false (d == quote) _ _ (ap (λ x. x == quote) (sym b) ∙ q) ∙ cond-false (starts_word d) _ _ (ap (λ x. starts_word x) (sym b) ∙ w)
+
+wrong_told : (start : List ℕ) (n c : ℕ) (cs next : List ℕ) → hashed_piece start n (c ∷ cs) ≡ Fault ExpectedStringLiteral next →
+    (c ∷ cs ≡ next) × ((other y : List ℕ) → BeginsAs next y → hashed_piece other n y ≡ Fault ExpectedStringLiteral y)
+wrong_told start n c cs next h = elim (cases_Bool (c == quote)) [
+  | inl q ↦
+      let step : hashed_piece start n (c ∷ cs) ≡ raw_string_piece start (raw_end (n - 1) cs) = cond-true (c == quote) _ _ q in
+      absurd (raw_string_other start next (raw_end (n - 1) cs) (sym step ∙ h))
+  | inr q ↦ elim (cases_Bool (starts_word c)) [
+    | inl w ↦
+        let step : hashed_piece start n (c ∷ cs) ≡ Whole (kind_of 97) (after_word cs) = cond-false (c == quote) _ _ q ∙ cond-true (starts_word c) _ _ w in
+        let never : Whole (kind_of 97) (after_word cs) ≡ Fault ExpectedStringLiteral next = sym step ∙ h in
+        absurd cc
+    | inr w ↦
+        let step : hashed_piece start n (c ∷ cs) ≡ Fault ExpectedStringLiteral (c ∷ cs) = cond-false (c == quote) _ _ q ∙ cond-false (starts_word c) _ _ w in
+        let found : Fault ExpectedStringLiteral (c ∷ cs) ≡ Fault ExpectedStringLiteral next = sym step ∙ h in
+        let same : c ∷ cs ≡ next = cc in
+        (same, λ other y b. wrong_again other n c cs y q w (subst (λ (t : List ℕ). BeginsAs t y) (sym same) b))
+  ]
+]
+
+wrong_at : (cs next r : List ℕ) → (hashes cs == 0) ≡ false → after_hashes cs ≡ r → hashed_piece cs (hashes cs) r ≡ Fault ExpectedStringLiteral next → Told raw_piece (Fault ExpectedStringLiteral) cs next
+wrong_at cs next [] n e h = absurd cc
+wrong_at cs next (c ∷ m) n e h =
+    let p : PassesHashes cs = hashes_pass cs in
+    let q = wrong_told cs (hashes cs) c m next h in
+    let same : after_hashes cs ≡ next = e ∙ q.0 in
+    record {
+      front = p.front;
+      whole = p.whole ∙ ap (λ (t : List ℕ). p.front ++ t) same;
+      again = λ y b.
+          let r = p.again y (subst (λ (t : List ℕ). BeginsAs t y) (sym same) b) in
+          let start : List ℕ = p.front ++ y in
+          let some : raw_piece start ≡ hashed_piece start (hashes start) (after_hashes start) = cond-false (hashes start == 0) _ _ (ap (λ x. x == 0) r.0 ∙ n) in
+          some ∙ ap (λ x. hashed_piece start x (after_hashes start)) r.0 ∙ ap (hashed_piece start (hashes cs)) r.1 ∙ q.1 start y b;
+    }
+
+raw_wrong : (cs next : List ℕ) → raw_piece cs ≡ Fault ExpectedStringLiteral next → Told raw_piece (Fault ExpectedStringLiteral) cs next
+raw_wrong cs next h = elim (cases_Bool (hashes cs == 0)) [
+  | inl z ↦
+      let step : raw_piece cs ≡ Whole (kind_of 97) cs = cond-true (hashes cs == 0) _ _ z in
+      let never : Whole (kind_of 97) cs ≡ Fault ExpectedStringLiteral next = sym step ∙ h in
+      absurd cc
+  | inr n ↦
+      let step : raw_piece cs ≡ hashed_piece cs (hashes cs) (after_hashes cs) = cond-false (hashes cs == 0) _ _ n in
+      wrong_at cs next (after_hashes cs) n refl (sym step ∙ h)
+]
+
+pub fault_told : (cs next : List ℕ) → code_piece cs ≡ Fault ExpectedStringLiteral next → Told code_piece (Fault ExpectedStringLiteral) cs next
+fault_told [] next h = absurd cc
+fault_told (c ∷ cs) next h = elim (cases_Bool (c == quote)) [
+  | inl q ↦ absurd (ended_other UnterminatedStringLiteral (c ∷ cs) next (string_end quote cs) (λ e. cc) (sym (string_first c cs q) ∙ h))
+  | inr q ↦ elim (cases_Bool (c == apostrophe)) [
+    | inl a ↦ absurd (quoted_other (c ∷ cs) (after_quoted cs) next (sym (quoted_first c cs q a) ∙ h))
+    | inr a ↦ elim (cases_Bool (c == letter_r)) [
+      | inl l ↦ told_first c raw_piece (Fault ExpectedStringLiteral) cs next (λ r. raw_first c r q a l) (raw_wrong cs next (sym (raw_first c cs q a l) ∙ h))
+      | inr l ↦ elim (cases_Bool (c == slash)) [
+        | inl s ↦ absurd (slash_other (c ∷ cs) cs next (sym (slash_first c cs q a l s) ∙ h))
+        | inr s ↦ (
+            let never : Whole (kind_of c) cs ≡ Fault ExpectedStringLiteral next = sym (single_first c cs q a l s) ∙ h in
+            absurd cc)
+      ]
+    ]
+  ]
+]
+
+-- so no text behind that fault mends it: it stands in each text that begins alike
+pub fault_moved : (front next y : List ℕ) → code_piece (front ++ next) ≡ Fault ExpectedStringLiteral next → BeginsAs next y → code_piece (front ++ y) ≡ Fault ExpectedStringLiteral y
+fault_moved front next y h b =
+    let t : Told code_piece (Fault ExpectedStringLiteral) (front ++ next) next = fault_told (front ++ next) next h in
+    let same : t.front ≡ front = append_cancel_right t.front front next (sym t.whole) in
+    ap (λ (x : List ℕ). code_piece (x ++ y)) (sym same) ∙ t.again y b
+
 -- a piece that counts no bracket, or has no end
 abbrev pub IsUncounted : Piece → Type 0
 IsUncounted (Whole k next) = k ≡ kind_of 97
