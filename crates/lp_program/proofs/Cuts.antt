@@ -1,12 +1,17 @@
 -- Uses and user code: each has one end, and is one text.
-use Rattle.std.proofs.Common.{◌≡◌, ℕ, ◌+◌, ◌-◌, ◌≤◌, List, [], ◌∷◌, ◌++◌, length, codes, drop, refl, sym, ap, ◌∙◌, arith, length-append, length-drop, subst}
+use Rattle.std.proofs.Common.{◌≡◌, ℕ, ◌≤◌, true, false, cond, List, [], ◌∷◌, ◌++◌, length, codes, drop, refl, sym, ap, ◌∙◌, arith, length-append, length-drop, subst}
 use Rattle.std.specs.Str.{IsUtf8, IsCharBoundary, chars, encode_utf8_all}
+use Rattle.std.proofs.lemmas.Bool.{both_ways, cond-true}
 use Rattle.std.proofs.lemmas.List.{append_cancel_left, append_cancel_right}
 use Rattle.std.proofs.lemmas.Str.{encode_ascii, encodes-chars, IsUtf8-append, IsUtf8-drop}
 use Rattle.lp_tok.specs.declared.tok.Error.{Error}
-use Rattle.lp_tok.specs.Cut.{StopsAt, EndsCut, FailsCut}
+use Rattle.lp_tok.specs.contracts.tok.ErrorCodePartialEq.TheImpl as equality
+use Rattle.lp_tok.specs.declared.tok.ErrorCode.{ErrorCode}
+use Rattle.lp_tok.specs.declared.tok.ErrorCode.TheVariants.{ExpectedStringLiteral}
+use Rattle.lp_tok.specs.Cut.{StopsAt, BreaksAt, EndsCut, FailsCut}
 use Rattle.lp_tok.specs.Cut.FailsCut.{breaks, unclosed}
-use Rattle.lp_tok.proofs.CutSteps.{stops_same, stops_breaks, stops_unclosed}
+use Rattle.lp_tok.proofs.CutSteps.{stops_same, stops_breaks, stops_unclosed, breaks_same, breaks_unclosed}
+use Rattle.lp_program.specs.Taking.{BreaksCut, GoesOn}
 use Rattle.lp_program.specs.CodeReading.{StartsUse, IsUse, IsCode, without_feed}
 
 -- texts of the same characters
@@ -36,6 +41,29 @@ code_once left code other restA restB u v a b =
 pub fails_stops : (text : List ℕ) (from : ℕ) (e : Error) (rest : List ℕ) → FailsCut text from e → StopsAt (chars (drop from text)) rest → ⊥
 fails_stops text from _ rest (breaks code n b cut) s = stops_breaks _ rest _ code s b
 fails_stops text from _ rest (unclosed u) s = stops_unclosed _ rest s u
+
+-- an error of this code by `==`
+itself : (x : ErrorCode) → cond ((equality.ghosts).eq x ExpectedStringLiteral) ExpectedStringLiteral x ≡ x
+itself ExpectedStringLiteral = refl
+itself _ = refl
+
+pub code_is : (x : ErrorCode) → (equality.ghosts).eq x ExpectedStringLiteral ≡ true → x ≡ ExpectedStringLiteral
+code_is x e = sym (itself x) ∙ cond-true ((equality.ghosts).eq x ExpectedStringLiteral) ExpectedStringLiteral x e
+
+pub code_other : (x : ErrorCode) → (equality.ghosts).eq x ExpectedStringLiteral ≡ false → x ≡ ExpectedStringLiteral → ⊥
+code_other x h e = both_ways ((equality.ghosts).eq x ExpectedStringLiteral) h (ap (λ y. (equality.ghosts).eq y ExpectedStringLiteral) e)
+
+-- at `r#` that begins neither a raw string nor a word, or at something else
+pub fails_there : (text : List ℕ) (from : ℕ) (e : Error) → FailsCut text from e → e.code ≡ ExpectedStringLiteral → BreaksCut text from e.location
+fails_there text from _ (breaks code n b cut) same = record { breaks = subst (λ c. BreaksAt (chars (drop from text)) c (chars (drop n text))) same b; boundary = cut }
+fails_there text from _ (unclosed u) same = absurd cc
+
+fails_breaks : (text : List ℕ) (from : ℕ) (e : Error) (rest : List ℕ) → FailsCut text from e → (e.code ≡ ExpectedStringLiteral → ⊥) → BreaksAt (chars (drop from text)) ExpectedStringLiteral rest → ⊥
+fails_breaks text from _ rest (breaks code n b cut) other s = other (breaks_same _ _ rest code ExpectedStringLiteral b s).0
+fails_breaks text from _ rest (unclosed u) other s = breaks_unclosed _ rest ExpectedStringLiteral s u
+
+pub fails_on : (text : List ℕ) (from : ℕ) (e : Error) → FailsCut text from e → (e.code ≡ ExpectedStringLiteral → ⊥) → GoesOn (chars (drop from text))
+fails_on text from e f other rest = (fails_stops text from e rest f, fails_breaks text from e rest f other)
 
 -- where its cut ends is what is left of a text
 pub one_end : (text rest : List ℕ) (from end : ℕ) → IsUtf8 text → EndsCut text from end → IsUtf8 rest → StopsAt (chars (drop from text)) (chars rest) → drop end text ≡ rest

@@ -8,8 +8,9 @@ use Rattle.std.proofs.lemmas.List.{append_cancel_left, append_cancel_right, drop
 use Rattle.std.proofs.lemmas.Str.{chars-append, encodes-append, encodes-chars, IsCharBoundary-from_drop, IsUtf8-between, IsUtf8-drop}
 use Rattle.lp_form.specs.Templates.{Piece}
 use Rattle.lp_form.specs.declared.template.Kind.{Kind}
-use Rattle.lp_tok.specs.Cut.{Splits, splits_none, splits_one, StopsAt, EndsCut}
-use Rattle.lp_tok.proofs.CutSteps.{stops_same}
+use Rattle.lp_tok.specs.declared.tok.ErrorCode.TheVariants.{ExpectedStringLiteral}
+use Rattle.lp_tok.specs.Cut.{Splits, splits_none, splits_one, StopsAt, BreaksAt, EndsCut}
+use Rattle.lp_tok.proofs.CutSteps.{stops_breaks, stops_same}
 use Rattle.lp_spelling.specs.Counting.{line_len, front_line, behind_line, feeds, settled}
 use Rattle.lp_spelling.specs.Cursors.{left, IsTaken}
 use Rattle.lp_spelling.specs.LineNumbers.{line_number, is_ended, past_last, number_at}
@@ -20,16 +21,16 @@ use Rattle.lp_local.specs.Agreeing.{first_lines, Agree, lines_before}
 use Rattle.lp_local.specs.Beginning.{is_line_end}
 use Rattle.lp_local.proofs.Agreeing.{feeds_text, feeds-append, agree_back, agree_fewer, agree_behind, agree_front, agree_past, past_more, lines_by_line, Shared, shared_front}
 use Rattle.lp_local.proofs.Broken.{broken_left, entries_broken}
-use Rattle.lp_local.proofs.Codes.{cut_shared, code_shared, line_end_shared, use_shared}
+use Rattle.lp_local.proofs.Codes.{break_shared, cut_shared, code_shared, line_end_shared, use_shared}
 use Rattle.lp_local.proofs.Numbers.{number_told}
-use Rattle.lp_local.proofs.Piecing.{piece_told}
+use Rattle.lp_local.proofs.Piecing.{fault_told, piece_told}
 use Rattle.lp_local.proofs.Settling.{Left, settled_left, behind_byte, from_byte, SettledShared, settled_shared}
 use Rattle.lp_local.proofs.Tables.{entries_left, entries_shared}
 use Rattle.lp_program.specs.Begins.{Lines}
 use Rattle.lp_program.specs.CodeReading.{IsUse, IsCode, without_feed}
 use Rattle.lp_program.specs.Looking.{AreCounted, OfLines}
 use Rattle.lp_program.specs.Nearby.{next_number, Like, Moves}
-use Rattle.lp_program.specs.Taking.{IsCutLine}
+use Rattle.lp_program.specs.Taking.{BreaksCut, IsCutLine}
 use Rattle.lp_program.specs.Telling.{Told, TellsLine, NotTold}
 use Rattle.lp_program.proofs.Cuts.{closed_text}
 use Rattle.lp_program.proofs.Existing.{behind_utf8, lines_exist, settled_fine}
@@ -399,7 +400,7 @@ no_table_like n place c text broken le like =
     let three = ap feeds l.whole ∙ feeds-append l.front (drop place c.text.now) in
     entries_broken (n - feeds (front_of c)) (left c) text (drop place c.text.now) (left_utf8 c like.whole) broken (omega (arith, lt, one, two, three)) (like_left n c text (omega (arith, lt, one, two, three)) like)
 
--- where a cut stops is behind the place from which it is made
+-- where a cut stops, or breaks, is behind the place from which it is made
 splits_left : (cs rest : List ℕ) (ks : List _) → Splits cs ks rest → length rest ≤ length cs
 splits_left _ _ _ (splits_none cs) = omega arith
 splits_left cs rest _ (splits_one _ next _ k ks p s) =
@@ -411,6 +412,13 @@ splits_left cs rest _ (splits_one _ next _ k ks p s) =
 stops_left : (cs rest : List ℕ) → StopsAt cs rest → length rest ≤ length cs
 stops_left cs rest s = splits_left cs rest s.0 s.1.splits
 
+breaks_left : (cs place : List ℕ) → BreaksAt cs ExpectedStringLiteral place → length place ≤ length cs
+breaks_left cs place b =
+    let t = fault_told b.1 place b.3 in
+    let size = ap length t.whole ∙ length-append t.front place in
+    let more = splits_left cs b.1 b.0 b.2.splits in
+    omega (arith, size, more)
+
 chars_some : (x : List ℕ) → IsUtf8 x → 0 < length x → 0 < length (chars x)
 chars_some x u some = elim (cases_lt 0 (length (chars x))) [
   | inl lt ↦ lt
@@ -420,18 +428,17 @@ chars_some x u some = elim (cases_lt 0 (length (chars x))) [
       absurd (omega (arith, ap length e, some))
 ]
 
-cut_after : (w : List ℕ) (from end : ℕ) → IsUtf8 w → IsCharBoundary w from → EndsCut w from end → from ≤ end
-cut_after w from end u at cut = elim (cases_lt end from) [
+place_after : (w : List ℕ) (from end : ℕ) → IsUtf8 w → IsCharBoundary w from → IsCharBoundary w end → length (chars (drop end w)) ≤ length (chars (drop from w)) → from ≤ end
+place_after w from end u at cut short = elim (cases_lt end from) [
   | inr le ↦ le
   | inl lt ↦
       let part : List ℕ = take (from - end) (drop end w) in
-      let v : IsUtf8 part = IsUtf8-between w end from u (omega (arith, lt)) cut.boundary at in
+      let v : IsUtf8 part = IsUtf8-between w end from u (omega (arith, lt)) cut at in
       let there : drop (from - end) (drop end w) ≡ drop from w = drop-drop (from - end) end w ∙ ap (λ k. drop k w) (omega (arith, lt)) in
       let whole : drop end w ≡ part ++ drop from w = sym (take-append-drop (from - end) (drop end w)) ∙ ap (λ (y : List ℕ). part ++ y) there in
       let all = ap (λ (y : List ℕ). length (chars y)) whole ∙ ap length (chars-append part (drop from w) v) ∙ length-append (chars part) (chars (drop from w)) in
       let size : length part ≡ from - end = length-take-le (from - end) (drop end w) (omega (arith, length-drop end w, at.0)) in
       let some = chars_some part v (omega (arith, size, lt)) in
-      let short = stops_left (chars (drop from w)) (chars (drop end w)) cut.stops in
       absurd (omega (arith, all, some, short))
 ]
 
@@ -463,42 +470,71 @@ record CutLike (n : ℕ) (w z : List ℕ) (from : ℕ) : Type 0 where
   some : 0 < lines
   agree : Agree lines (drop end w) other
 
-cut_like : (n : ℕ) (w z : List ℕ) (from end : ℕ) → IsUtf8 w → feeds w + 1 < 2 ^ 64 → IsCharBoundary w from → EndsCut w from end → end < length w → number_at end w ≤ n → Agree (n - feeds (take from w)) (drop from w) z → CutLike n w z from
-cut_like n w z from end u count at cut lt le h =
-    let after = cut_after w from end u at cut in
+-- the text from one place to another, which is on a line that was looked at
+record Between (n : ℕ) (w : List ℕ) (from end : ℕ) : Type 0 where
+  whole : List ℕ
+  there : drop from w ≡ whole ++ drop end w
+  is_text : IsUtf8 whole
+  few : feeds whole < n - feeds (take from w)
+
+between : (n : ℕ) (w : List ℕ) (from end : ℕ) → IsUtf8 w → feeds w + 1 < 2 ^ 64 → IsCharBoundary w from → IsCharBoundary w end → from ≤ end → end < length w → number_at end w ≤ n → Between n w from end
+between n w from end u count at cut after lt le =
     let whole : List ℕ = take (end - from) (drop from w) in
     let there : drop from w ≡ whole ++ drop end w = part_there w whole from end after refl in
-    let v : IsUtf8 whole = IsUtf8-between w from end u after at cut.boundary in
     let number = number_at_line end w count lt in
     let a = ap feeds (take-append-drop from w) in
     let b = feeds-append (take from w) (drop from w) in
     let d = ap feeds (take-append-drop end w) in
     let e = feeds-append (take end w) (drop end w) in
     let f = ap feeds there ∙ feeds-append whole (drop end w) in
-    let few : feeds whole < n - feeds (take from w) = omega (arith, number, le, a, b, d, e, f) in
-    let s = cut_shared (n - feeds (take from w)) whole (drop end w) z v (IsUtf8-drop w end u cut.boundary) few (subst (λ (y : List ℕ). StopsAt (chars y) (chars (drop end w))) there cut.stops)
-    (subst (λ (y : List ℕ). Agree (n - feeds (take from w)) y z) there h) in
+    record { whole = whole; there = there; is_text = IsUtf8-between w from end u after at cut; few = omega (arith, number, le, a, b, d, e, f) }
+
+cut_like : (n : ℕ) (w z : List ℕ) (from end : ℕ) → IsUtf8 w → feeds w + 1 < 2 ^ 64 → IsCharBoundary w from → EndsCut w from end → end < length w → number_at end w ≤ n → Agree (n - feeds (take from w)) (drop from w) z → CutLike n w z from
+cut_like n w z from end u count at cut lt le h =
+    let after = place_after w from end u at cut.boundary (stops_left (chars (drop from w)) (chars (drop end w)) cut.stops) in
+    let b = between n w from end u count at cut.boundary after lt le in
+    let few = b.few in
+    let s = cut_shared (n - feeds (take from w)) b.whole (drop end w) z b.is_text (IsUtf8-drop w end u cut.boundary) few (subst (λ (y : List ℕ). StopsAt (chars y) (chars (drop end w))) b.there cut.stops)
+    (subst (λ (y : List ℕ). Agree (n - feeds (take from w)) y z) b.there h) in
     record {
       end = end;
       cut = cut;
-      whole = whole;
-      there = there;
-      is_text = v;
+      whole = b.whole;
+      there = b.there;
+      is_text = b.is_text;
       other = s.other;
       z_is = s.b_is;
       stops = s.stops;
-      lines = n - feeds (take from w) - feeds whole;
+      lines = n - feeds (take from w) - feeds b.whole;
       some = omega (arith, few);
       agree = s.agree;
     }
 
--- the line at which a cut stops was looked at: the cut stops in each text that agrees, or this is the whole text
-cut_looked : (n line : ℕ) (w z : List ℕ) (from : ℕ) → IsUtf8 w → feeds w + 1 < 2 ^ 64 → IsCharBoundary w from → IsCutLine w from line → line ≤ n → Agree (n - feeds (take from w)) (drop from w) z → (past_last w ≤ n) ⊎ CutLike n w z from
-cut_looked n line w z from u count at (inr e) le h = inl (omega (arith, e, le))
+-- one that breaks there, at what no text behind it mends, breaks in each text that agrees, and so stops nowhere
+break_like : (n : ℕ) (w z : List ℕ) (from end : ℕ) → IsUtf8 w → feeds w + 1 < 2 ^ 64 → IsCharBoundary w from → BreaksCut w from end → end < length w → number_at end w ≤ n → Agree (n - feeds (take from w)) (drop from w) z →
+    (rest : List ℕ) → StopsAt (chars z) rest → ⊥
+break_like n w z from end u count at cut lt le h rest stops =
+    let after = place_after w from end u at cut.boundary (breaks_left (chars (drop from w)) (chars (drop end w)) cut.breaks) in
+    let b = between n w from end u count at cut.boundary after lt le in
+    let s = break_shared (n - feeds (take from w)) b.whole (drop end w) z b.is_text (IsUtf8-drop w end u cut.boundary) b.few (subst (λ (y : List ℕ). BreaksAt (chars y) ExpectedStringLiteral (chars (drop end w))) b.there cut.breaks)
+    (subst (λ (y : List ℕ). Agree (n - feeds (take from w)) y z) b.there h) in
+    stops_breaks (chars z) rest (chars s.other) ExpectedStringLiteral stops s.breaks
+
+-- the line at which a cut stops or breaks was looked at: the cut stops in each text that agrees, at what agrees, or in none; or this is the whole text
+abbrev StopsNowhere : List ℕ → Type 0
+StopsNowhere z = (rest : List ℕ) → StopsAt (chars z) rest → ⊥
+
+cut_looked : (n line : ℕ) (w z : List ℕ) (from : ℕ) → IsUtf8 w → feeds w + 1 < 2 ^ 64 → IsCharBoundary w from → IsCutLine w from line → line ≤ n → Agree (n - feeds (take from w)) (drop from w) z →
+    (past_last w ≤ n) ⊎ CutLike n w z from ⊎ StopsNowhere z
 cut_looked n line w z from u count at (inl (end, cut, e)) le h = elim (cases_lt end (length w)) [
-  | inl lt ↦ inr (cut_like n w z from end u count at cut lt (omega (arith, e, le)) h)
+  | inl lt ↦ inr (inl (cut_like n w z from end u count at cut lt (omega (arith, e, le)) h))
   | inr over ↦ (let last = number_at_end end w over in inl (omega (arith, e, last, le)))
 ]
+cut_looked n line w z from u count at (inr (inl (end, cut, e))) le h = elim (cases_lt end (length w)) [
+  | inl lt ↦ inr (inr (break_like n w z from end u count at cut lt (omega (arith, e, le)) h))
+  | inr over ↦ (let last = number_at_end end w over in inl (omega (arith, e, last, le)))
+]
+cut_looked n line w z from u count at (inr (inr (on, e))) le h = inl (omega (arith, e, le))
 
 -- user code that isn't there
 no_code_here : (n : ℕ) (c : Cursor) (text code rest : List ℕ) → Like n c text → IsUtf8 rest → IsCode text code rest → CutLike n c.text.now text c.raw → (whole : List ℕ) × (there : List ℕ) × IsUtf8 there × IsCode (left c) whole there
@@ -517,7 +553,8 @@ no_code_like n c text line stops le far like none code rest u x =
     let lines = place_before n c like.whole like.counted le in
     elim (cut_looked n line c.text.now text c.raw like.whole like.counted c.raw_in stops far (like_left n c text lines like)) [
       | inl last ↦ none code rest u (subst (λ (y : List ℕ). IsCode y code rest) (like_all n c text last like) x)
-      | inr z ↦ (let y = no_code_here n c text code rest like u x z in none y.0 y.1 y.2 y.3)
+      | inr (inl z) ↦ (let y = no_code_here n c text code rest like u x z in none y.0 y.1 y.2 y.3)
+      | inr (inr nowhere) ↦ nowhere (chars rest) x.stops
     ]
 
 -- a use that isn't there
@@ -598,6 +635,7 @@ no_use_like n c text start from line at is stops le far like none used rest u x 
       = subst (λ (y : List ℕ). Agree (n - feeds (take from w)) y z) (sym b.there) (agree_back (n - feeds (take from w)) z s.behind (subst (λ k. Agree k z s.behind) lines s.agree)) in
       elim (cut_looked n line w z from like.whole like.counted b.at stops far agree) [
         | inl last ↦ none used rest u (subst (λ (y : List ℕ). IsUse y used rest) (like_all n c text last like) x)
-        | inr k ↦ (let y = no_use_here n c text used rest from s like.whole like.is_text u x b.there k in none y.0 y.1 y.2 y.3)
+        | inr (inl k) ↦ (let y = no_use_here n c text used rest from s like.whole like.is_text u x b.there k in none y.0 y.1 y.2 y.3)
+        | inr (inr nowhere) ↦ nowhere (chars (codes ";" ++ rest)) x.stops
       ]
 ]

@@ -10,7 +10,7 @@ ghost use Rattle.lp_program.specs.Taking.{IsCutLine, IsTakenTable, IsTakenText};
 
 use lp_spelling::cursor::Cursor;
 use lp_spelling::rows::{Table, read_entries};
-use lp_tok::code_end;
+use lp_tok::{ErrorCode, code_end};
 use std::alloc::{AllocError, Global};
 
 /// A text that is taken off, and where the reading goes on behind it.
@@ -144,7 +144,8 @@ pub(crate) fn take_entries<'t>(
     }
 }
 
-/// The line at which the cut from a place stops or fails, if the place is in the text.
+/// The line of the place at which the cut from a place stops, or of a fault that no text behind it
+/// mends; one past the last line for any other, or where the place is not in the text.
 pub(crate) fn cut_line(cursor: Cursor<'_>, from: usize) -> usize
     ensures { IsCutLine cursor.entry.text.now from result }
 {
@@ -152,8 +153,11 @@ pub(crate) fn cut_line(cursor: Cursor<'_>, from: usize) -> usize
     if !text.is_char_boundary(from) {
         return cursor.past_last();
     }
-    match cut_end(text, from) {
-        None => cursor.past_last(),
-        Some(end) => cursor.line_from(end),
+    match code_end(text, from) {
+        Ok(end) => cursor.line_from(end),
+        Err(error) if error.code == ErrorCode::ExpectedStringLiteral => {
+            cursor.line_from(error.location)
+        }
+        Err(_) => cursor.past_last(),
     }
 }
