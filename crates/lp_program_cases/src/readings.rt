@@ -110,6 +110,16 @@ fn broken_texts_are_refused(rt: HostRuntime) -> Result<(), Fail> {
 }
 
 #[test]
+fn faults_of_user_code_are_told_where_nothing_mends_them(rt: HostRuntime) -> Result<(), Fail> {
+    let alloc = rt.alloc();
+    let wrong = ROW_ONE.replace(alloc, "    __0\n", "    __0\n    r#+\n    __0\n")?;
+    assert_eq!(rt; refused_line(alloc, wrong.as_str()), 369);
+    let open = ROW_ONE.replace(alloc, "    __0\n", "    __0\n    \"\n    __0\n")?;
+    assert_eq!(rt; refused_line(alloc, open.as_str()), 391);
+    Ok(())
+}
+
+#[test]
 fn prefixes_that_make_no_identifier_are_refused(rt: HostRuntime) -> Result<(), Fail> {
     let alloc = rt.alloc();
     for prefix in ["", "1", "a-"] {
