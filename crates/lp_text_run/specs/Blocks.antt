@@ -3,8 +3,9 @@ use Rattle.std.specs.Prelude.{◌≡◌, ℕ, zero, suc, ◌+◌, List, [], ◌+
 use Rattle.lp_driver.specs.Values.{Text}
 use Rattle.lp_lines.specs.Blocks.{block_text}
 use Rattle.lp_lines.specs.declared.token_line.TokenLine.{TokenLine}
-use Rattle.lp_program.specs.Choosing.{IsChosen}
+use Rattle.lp_program.specs.Choosing.{IsRefused}
 use Rattle.lp_program.specs.Reads.{ReadsAs}
+use Rattle.lp_program.specs.declared.read.reader.ReadFault.TheVariants as read
 use Rattle.lp_run.specs.ProgramRun.{Finish, NoStart, ParameterCount}
 use Rattle.lp_run.specs.RunTold.{RunsProgram}
 use Rattle.lp_tree.specs.declared.tree.Program.{Program}
@@ -51,8 +52,8 @@ abbrev pub IsFirstWithout : Program → List Text → List TokenLine → ℕ →
 IsFirstWithout program params lines place why =
     (line : TokenLine) × (before : List ℕ) × (slice_get lines place ≡ Some line) × AreBlocks program params lines place before × IsLineFault program params line (place + 1) why
 
--- why a text has no blocks of these lines: no program is chosen in it, or a line has no run
+-- why a text has no blocks of these lines: it is refused at a line, or a token line has no run
 abbrev pub IsRunFault : Text → List Text → List TokenLine → TextRunFault → Type 0
-IsRunFault text params lines (fault.NoForm line) = (program : Program) → IsChosen text program → ⊥
+IsRunFault text params lines (fault.NoForm line) = IsRefused text (read.NoForm line)
 IsRunFault text params lines fault.Memory = Unit {0}
 IsRunFault text params lines why = (program : Program) × (place : ℕ) × ReadsAs text program × IsFirstWithout program params lines place why

@@ -1,5 +1,7 @@
-use Rattle.std.proofs.Common.{rules, ◌+◌, IfErr, length, refl, string_bytes}
+use Rattle.std.proofs.Common.{rules, ◌+◌, IfErr, length, refl, string_bytes, sym, subst}
 use Rattle.std.proofs.lemmas.Option.{slice_get_read}
+use Rattle.lp_program.specs.Choosing.{IsRefused}
+use Rattle.lp_program.specs.declared.read.reader.ReadFault.TheVariants as read
 use Rattle.lp_text_run.specs.Blocks.{AreBlocks, IsLineFault}
 use Rattle.lp_text_run.proofs.Blocks.{blocks_more, fault_of}
 use Rattle.lp_text_run.proofs.text_run.run_text.Goals as goal
@@ -20,3 +22,8 @@ pub returns-clause-blocks : goal.returns-clause-blocks
 returns-clause-blocks c =
     let all : AreBlocks c.in-Ok.program c.args.params.now c.args.lines.now (length c.args.lines.now) c.into_bytes.result.items = search rules in
     (c.in-Ok.program, c.in-Ok.ensures.reads, all)
+
+pub returns-in-Err-NoForm-clause-fault : goal.returns-in-Err-NoForm-clause-fault
+returns-in-Err-NoForm-clause-fault c =
+    let refused = subst (IsRefused c.args.text.now) c.in-Err-NoForm.field-0-is c.in-Err-NoForm.ensures.refused in
+    subst (λ line. IsRefused c.args.text.now (read.NoForm line)) (sym c.in-Err-NoForm.line-is) refused
