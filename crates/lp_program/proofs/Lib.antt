@@ -26,6 +26,10 @@ pub mod Found
 pub mod Held
 pub mod Many
 pub mod Nearby
+pub mod Spelled
+pub mod ChosenReads
+pub mod Fronts
+pub mod Starting
 pub mod Opened
 pub mod Steps
 pub mod Whole

@@ -39,14 +39,14 @@ use Rattle.lp_program.proofs.Taking.{part_there}
 
 -- nothing is taken off
 pub moves_none : (n : ℕ) (c : Cursor) (text : List ℕ) → Like n c text → Moves n c c text text
-moves_none n c text like = record { like = like; size = refl }
+moves_none n c text like = record { like = like; taken = refl; size = refl }
 
 pub moves_same : (n : ℕ) (a b : Cursor) (text : List ℕ) → b ≡ a → Like n a text → Moves n a b text text
 moves_same n a b text e like = subst (λ (k : Cursor). Moves n a k text text) (sym e) (moves_none n a text like)
 
 -- one thing behind another
 pub moves_then : (n : ℕ) (a b c : Cursor) (x y z : List ℕ) → Moves n a b x y → Moves n b c y z → Moves n a c x z
-moves_then n a b c x y z f g = record { like = g.like; size = omega (arith, f.size, g.size) }
+moves_then n a b c x y z f g = record { like = g.like; taken = g.taken ∙ f.taken; size = omega (arith, f.size, g.size) }
 
 -- a text that is its own rest has no front
 no_front : (text : List ℕ) (n : ℕ) → drop n text ≡ text → take n text ≡ []
@@ -107,6 +107,7 @@ moves_front n c next x text rest same e f u like = record {
         ap (λ (y : List ℕ). first_lines n (y ++ rest)) (front_next c next x same e) ∙ ap (first_lines n) (append_assoc (front_of c) x rest) ∙ ap (λ (y : List ℕ). first_lines n (front_of c ++ y)) (sym f)
         ∙ like.same ∙ ap (first_lines n) (sym same);
   };
+  taken = same;
   size = (let a = ap length e ∙ length-append x (left next) in let b = ap length f ∙ length-append x rest in omega (arith, a, b));
 }
 
@@ -116,7 +117,7 @@ moves_all n c next text rest same e f l like =
     moves_front n c next l.front text rest same l.whole (e ∙ l.whole ∙ ap (λ (y : List ℕ). l.front ++ y) (sym f)) (subst IsUtf8 (sym f) l.utf8) like
 
 -- the number of a line is that of those before it, and one
-number_at_line : (place : ℕ) (text : List ℕ) → feeds text + 1 < 2 ^ 64 → place < length text → number_at place text ≡ feeds (take place text) + 1
+pub number_at_line : (place : ℕ) (text : List ℕ) → feeds text + 1 < 2 ^ 64 → place < length text → number_at place text ≡ feeds (take place text) + 1
 number_at_line place text count lt =
     let all = ap feeds (take-append-drop place text) in
     let both = feeds-append (take place text) (drop place text) in
@@ -388,7 +389,7 @@ table_like n c next text numbers same is far like =
       counted = omega (arith, ap feeds same, like.counted);
       same = sym whole ∙ ap (first_lines n) (front_whole next);
     } in
-    (z.other, z.reads, record { like = there; size = omega (arith, size) })
+    (z.other, z.reads, record { like = there; taken = same; size = omega (arith, size) })
 
 -- a table that is broken where the line was looked at
 pub no_table_like : (n place : ℕ) (c : Cursor) (text : List ℕ) → IsBroken true (left c) (drop place c.text.now) → number_at place c.text.now ≤ n → Like n c text → entries text ≡ None
