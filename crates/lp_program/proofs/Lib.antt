@@ -29,6 +29,7 @@ pub mod Nearby
 pub mod Spelled
 pub mod ChosenReads
 pub mod Fronts
+pub mod Begun
 pub mod Starting
 pub mod Opened
 pub mod Steps
