@@ -30,6 +30,10 @@ pub mod Spelled
 pub mod ChosenReads
 pub mod Fronts
 pub mod Begun
+pub mod OwnBegun
+pub mod Stopping
+pub mod ProgramBegun
+pub mod Looked
 pub mod Starting
 pub mod Opened
 pub mod Steps

@@ -49,7 +49,7 @@ pub moves_then : (n : ℕ) (a b c : Cursor) (x y z : List ℕ) → Moves n a b x
 moves_then n a b c x y z f g = record { like = g.like; taken = g.taken ∙ f.taken; size = omega (arith, f.size, g.size) }
 
 -- a text that is its own rest has no front
-no_front : (text : List ℕ) (n : ℕ) → drop n text ≡ text → take n text ≡ []
+pub no_front : (text : List ℕ) (n : ℕ) → drop n text ≡ text → take n text ≡ []
 no_front text n e =
     let whole = ap length (take-append-drop n text) in
     let parts = length-append (take n text) (drop n text) in
@@ -83,7 +83,7 @@ front_of c = take c.raw c.text.now
 front_whole : (c : Cursor) → front_of c ++ left c ≡ c.text.now
 front_whole c = take-append-drop c.raw c.text.now
 
-left_utf8 : (c : Cursor) → IsUtf8 c.text.now → IsUtf8 (left c)
+pub left_utf8 : (c : Cursor) → IsUtf8 c.text.now → IsUtf8 (left c)
 left_utf8 c u = IsUtf8-drop c.text.now c.raw u c.raw_in
 
 -- the lines of what is left
@@ -91,7 +91,7 @@ like_left : (n : ℕ) (c : Cursor) (text : List ℕ) → feeds (front_of c) < n 
 like_left n c text lt like = agree_behind n (front_of c) (left c) text lt (ap (first_lines n) (front_whole c) ∙ sym like.same)
 
 -- the same front is taken off
-front_next : (c next : Cursor) (x : List ℕ) → IsTaken c next → left c ≡ x ++ left next → front_of next ≡ front_of c ++ x
+pub front_next : (c next : Cursor) (x : List ℕ) → IsTaken c next → left c ≡ x ++ left next → front_of next ≡ front_of c ++ x
 front_next c next x same e =
     append_cancel_right (front_of next) (front_of c ++ x) (left next)
     (front_whole next ∙ same ∙ sym (front_whole c) ∙ ap (λ (y : List ℕ). front_of c ++ y) e ∙ sym (append_assoc (front_of c) x (left next)))
@@ -182,7 +182,7 @@ behind_left t u =
       whole = l.whole ∙ ap (λ (y : List ℕ). l.front ++ y) (sym (take-append-drop (line_len (settled t) + 1) (settled t))) ∙ sym (append_assoc l.front (take (line_len (settled t) + 1) (settled t)) (behind_line (settled t)));
     }
 
-no_lines : (t : List ℕ) → first_lines 0 t ≡ []
+pub no_lines : (t : List ℕ) → first_lines 0 t ≡ []
 unfolding first_lines
 no_lines [] = refl
 no_lines (b ∷ t) = refl
@@ -260,7 +260,7 @@ number_grows c next u same rest =
     subst (λ (t : List ℕ). next_number c ≤ number_at next.start t) (sym same) (number_mono w c.start next.start (omega (arith, first, later, text, short, behind, in_first, in_later)))
 
 -- what stands in front of a place where the next line that counts was looked at ends on a line that was looked at
-place_before : (n : ℕ) (c : Cursor) → IsUtf8 c.text.now → feeds c.text.now + 1 < 2 ^ 64 → next_number c ≤ n → feeds (front_of c) < n
+pub place_before : (n : ℕ) (c : Cursor) → IsUtf8 c.text.now → feeds c.text.now + 1 < 2 ^ 64 → next_number c ≤ n → feeds (front_of c) < n
 place_before n c u count le = elim (cases_lt 0 (length (settled (left c)))) [
   | inl some ↦ (let lt = next_before n c u count some le in omega (arith, lt))
   | inr none ↦
@@ -332,7 +332,7 @@ taken_before n c next same u count far x e =
     (omega (arith, place, front), ap feeds e ∙ feeds-append x (left next))
 
 -- a use that is there
-use_whole : (used rest : List ℕ) → codes "use " ++ (used ++ (codes ";" ++ rest)) ≡ (codes "use " ++ (used ++ codes ";")) ++ rest
+pub use_whole : (used rest : List ℕ) → codes "use " ++ (used ++ (codes ";" ++ rest)) ≡ (codes "use " ++ (used ++ codes ";")) ++ rest
 use_whole used rest = ap (λ (x : List ℕ). codes "use " ++ x) (sym (append_assoc used (codes ";") rest))
 
 pub use_like : (n : ℕ) (c next : Cursor) (text used : List ℕ) → IsTaken c next → IsUse (left c) used (left next) → next_number c ≤ n → next_number next ≤ n → Like n c text →

@@ -32,7 +32,7 @@ use_front x =
     ∙ ap (λ (l : List ℕ). 117 ∷ l)
     (text_front 115 (101 ∷ 32 ∷ x) refl ∙ ap (λ (l : List ℕ). 115 ∷ l) (text_front 101 (32 ∷ x) refl ∙ ap (λ (l : List ℕ). 101 ∷ l) (text_front 32 x refl)))
 
-use_begins : (text used rest : List ℕ) → IsUse text used rest → starts_with eqb (front_line (settled text)) (codes "use ") ≡ true
+pub use_begins : (text used rest : List ℕ) → IsUse text used rest → starts_with eqb (front_line (settled text)) (codes "use ") ≡ true
 use_begins text used rest u =
     let behind : List ℕ = used ++ (codes ";" ++ rest) in
     ap (λ (t : List ℕ). starts_with eqb (front_line t) (codes "use ")) u.front ∙ ap (λ (t : List ℕ). starts_with eqb t (codes "use ")) (use_front behind) ∙ starts_again (codes "use ") (front_line behind)
@@ -186,7 +186,7 @@ none_skipped : is_skipped (trim_start []) ≡ true
 unfolding trim_start chars
 none_skipped = refl
 
-only_feeds : (text : List ℕ) → feeds text ≡ length text → settled text ≡ []
+pub only_feeds : (text : List ℕ) → feeds text ≡ length text → settled text ≡ []
 only_feeds [] e = settled_none
 only_feeds (b ∷ text) e = elim (cases_Bool (b == 10)) [
   | inl y ↦

@@ -15,7 +15,7 @@ ghost use Rattle.lp_program.specs.Begins.{Begins, IsUseFirst};
 ghost use Rattle.lp_program.specs.Choosing.{AnyChosen, Below, BodyChosen, ClassChosen, EitherChosen, InlinedChosen, IsChosen, IsRefused, MemberChosen, OptionalChosen, PairChosen, PartChosen, PartSteps, StepChosen, WholeChosen};
 ghost use Rattle.lp_program.specs.CodeReading.{IsUse, IsCode};
 ghost use Rattle.lp_program.specs.Looking.{Chooses, OfLines, Picks};
-ghost use Rattle.lp_program.specs.Nearby.{OfLike};
+ghost use Rattle.lp_program.specs.Nearby.{OfLike, next_number};
 ghost use Rattle.lp_program.specs.Parameters.{first_or, last_parameter, parameter_after, parameters_of};
 ghost use Rattle.lp_program.specs.Printed.{is_member};
 ghost use Rattle.lp_program.specs.Reads.{ReadsAs};
@@ -334,7 +334,8 @@ impl<'t> Reader<'t> {
 
     /// A place, or else the next line, which doesn't fit.
     fn or_misfit(&self, next: Option<Cursor<'t>>) -> Result<Cursor<'t>, usize>
-        ensures { MatchResult result (λ place. next.entry ≡ Some place) (λ line. next.entry ≡ None) }
+        ensures either { MatchResult result (λ place. next.entry ≡ Some place) (λ line. next.entry ≡ None) }
+        ensures line { IfErr result (λ line. line ≡ next_number self.now.cursor) }
     {
         match next {
             Some(place) => Ok(place),

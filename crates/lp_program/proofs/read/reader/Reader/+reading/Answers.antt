@@ -273,6 +273,7 @@ pub read_many-parts-init : goal.read_many-parts-init
 read_many-parts-init t c = record {
   reads = none_below (step.Many c.args.class) _ c.args.self.now refl refl;
   chosen = any_begun c.args.depth c.args.self.now.prefix.now (EachPart c.args.depth c.args.self.now.prefix.now) c.args.class c.args.self.now;
+  begun = (so_far_none c.args.self.now.prefix.now (MayHave (step.Many c.args.class)) c.args.self.now refl, look_same c.args.self.now.looked c.args.self.now.looked c.args.self.now.cursor _ (omega arith));
 }
 
 pub read_many-parts-preserved : goal.read_many-parts-preserved
@@ -290,11 +291,11 @@ read_many-parts-preserved t c =
       reads = many_more c.args.class c.in-Some.part old c.parts.self _ _ _ c.parts.invariant.reads same member (brings_at (IsPart c.in-Some.part) _ _ _ _ c.if-not-branch.false c.in_ok-read_part.ensures.reads);
       chosen = parts_goes c.args.depth c.args.class c.in-Some.part old c.parts.self _ _ _ e c.parts.invariant.chosen same seen c.if-not-branch.false c.in_ok-read_part.ensures.chosen (omega (arith, was, is, at));
       begun = (
-        so_far_more old.prefix.now (MayHave (step.Many c.args.class)) (IsPart c.in-Some.part) (MayHave (step.Many c.args.class)) (PartChosen c.args.depth c.pick.new.self.prefix.now c.in-Some.part) old c.parts.self c.pick.new.self _
+        so_far_more old.prefix.now (MayHave (step.Many c.args.class)) (IsPart c.in-Some.part) (MayHave (step.Many c.args.class)) (PartChosen c.args.depth c.pick.new.self.prefix.now c.in-Some.part) old c.parts.self c.pick.new.self c.read_part.new.self
             (many_may c.args.class c.in-Some.part member) (parts_from c.args.depth c.in-Some.part c.pick.new.self.prefix.now old.prefix.now (same.prefix_is ∙ e)) c.parts.invariant.begun.0 same
-            (answers_yes (PartChosen c.args.depth c.pick.new.self.prefix.now c.in-Some.part) c.pick.new.self _ _ c.if-not-branch.false c.in_ok-read_part.ensures.chosen),
+            (answers_yes (PartChosen c.args.depth c.pick.new.self.prefix.now c.in-Some.part) c.pick.new.self _ c.read_part.new.self c.if-not-branch.false c.in_ok-read_part.ensures.chosen),
         many_begun c.args.class old c.parts.self _ e (omega (arith, same.looked, looked)) c.parts.invariant.begun.0 c.parts.invariant.begun.1
-            (member_begun c.args.class c.in-Some.part c.parts.self c.pick.new.self _ member same looked c.in_ok-part.ensures.begun c.in_ok-read_part.ensures.begun),
+            (member_begun c.args.class c.in-Some.part c.parts.self c.pick.new.self c.read_part.new.self member same looked c.in_ok-part.ensures.begun c.in_ok-read_part.ensures.begun),
       );
     }
 
@@ -467,11 +468,11 @@ read_pairs-pairs-preserved t c =
       reads = pairs_more c.args.first c.args.second c.in-Some.part old c.pairs.self _ _ _ c.pairs.invariant.reads same member (brings_at (IsPair c.in-Some.part c.args.second) _ _ _ _ c.if-not-branch.false c.in_ok-read_pair.ensures.reads);
       chosen = pairs_goes c.args.depth c.args.at c.args.first c.args.second c.in-Some.part old c.pairs.self _ _ _ c.requires e c.pairs.invariant.chosen same seen c.if-not-branch.false c.in_ok-read_pair.ensures.chosen (omega (arith, was, is, at));
       begun = (
-        so_far_more old.prefix.now (MayHave (step.Pairs c.args.first c.args.second)) (IsPair c.in-Some.part c.args.second) (MayHave (step.Pairs c.args.first c.args.second)) PairRead old c.pairs.self c.pick.new.self _
+        so_far_more old.prefix.now (MayHave (step.Pairs c.args.first c.args.second)) (IsPair c.in-Some.part c.args.second) (MayHave (step.Pairs c.args.first c.args.second)) PairRead old c.pairs.self c.pick.new.self c.read_pair.new.self
             (pairs_may c.args.first c.args.second c.in-Some.part member)
             (pair_from c.args.depth c.in-Some.part c.args.second (held c.args.at c.pick.new.self) c.pick.new.self.prefix.now old.prefix.now (same.prefix_is ∙ e)) c.pairs.invariant.begun.0 same
-            (answers_yes PairRead c.pick.new.self _ _ c.if-not-branch.false c.in_ok-read_pair.ensures.chosen),
-        pairs_begun c.args.first c.args.second c.in-Some.part old c.pairs.self c.pick.new.self _ e member same looked c.pairs.invariant.begun.0 c.pairs.invariant.begun.1 c.in_ok-part.ensures.begun c.in_ok-read_pair.ensures.begun,
+            (answers_yes PairRead c.pick.new.self _ c.read_pair.new.self c.if-not-branch.false c.in_ok-read_pair.ensures.chosen),
+        pairs_begun c.args.first c.args.second c.in-Some.part old c.pairs.self c.pick.new.self c.read_pair.new.self e member same looked c.pairs.invariant.begun.0 c.pairs.invariant.begun.1 c.in_ok-part.ensures.begun c.in_ok-read_pair.ensures.begun,
       );
     }
 
@@ -525,7 +526,7 @@ read_pairs-returns-then-ahead-clause-begun t c =
     let member = rw c.in-Some.is at c.in_ok-part.ensures.member in
     let PairRead : Reading = PairChosen c.args.depth c.pick.new.self.prefix.now (PartChosen c.args.depth c.pick.new.self.prefix.now) (held c.args.at c.pick.new.self) c.args.second c.in-Some.part in
     let looked = answers_looked PairRead c.pick.new.self _ c.read_pair.new.self c.in_ok-read_pair.ensures.chosen in
-    pairs_begun c.args.first c.args.second c.in-Some.part old c.pairs.self c.pick.new.self _ e member same looked c.pairs.invariant.begun.0 c.pairs.invariant.begun.1 c.in_ok-part.ensures.begun c.in_ok-read_pair.ensures.begun
+    pairs_begun c.args.first c.args.second c.in-Some.part old c.pairs.self c.pick.new.self c.read_pair.new.self e member same looked c.pairs.invariant.begun.0 c.pairs.invariant.begun.1 c.in_ok-part.ensures.begun c.in_ok-read_pair.ensures.begun
 
 pub read_pairs-returns-then-not-branch-clause-begun : goal.read_pairs-returns-then-not-branch-clause-begun
 read_pairs-returns-then-not-branch-clause-begun t c =
@@ -535,7 +536,7 @@ read_pairs-returns-then-not-branch-clause-begun t c =
     let member = rw c.in-Some.is at c.in_ok-part.ensures.member in
     let PairRead : Reading = PairChosen c.args.depth c.pick.new.self.prefix.now (PartChosen c.args.depth c.pick.new.self.prefix.now) (held c.args.at c.pick.new.self) c.args.second c.in-Some.part in
     let looked = answers_looked PairRead c.pick.new.self _ c.read_pair.new.self c.in_ok-read_pair.ensures.chosen in
-    pairs_begun c.args.first c.args.second c.in-Some.part old c.pairs.self c.pick.new.self _ e member same looked c.pairs.invariant.begun.0 c.pairs.invariant.begun.1 c.in_ok-part.ensures.begun c.in_ok-read_pair.ensures.begun
+    pairs_begun c.args.first c.args.second c.in-Some.part old c.pairs.self c.pick.new.self c.read_pair.new.self e member same looked c.pairs.invariant.begun.0 c.pairs.invariant.begun.1 c.in_ok-part.ensures.begun c.in_ok-read_pair.ensures.begun
 
 
 -- what the lines that were looked at begin
@@ -561,14 +562,14 @@ pub read_part-returns-then-depth-eq0-clause-begun : goal.read_part-returns-then-
 read_part-returns-then-depth-eq0-clause-begun t c = look_same c.args.self.now.looked c.args.self.now.looked c.args.self.now.cursor _ (omega arith)
 
 pub read_part-returns-then-not-branch-clause-begun : goal.read_part-returns-then-not-branch-clause-begun
-read_part-returns-then-not-branch-clause-begun t c = opened_begun c.args.part _ c.args.self.now _ _ c.in_ok-growing.ensures c.in_ok-read_steps.ensures.begun
+read_part-returns-then-not-branch-clause-begun t c = opened_begun c.args.part _ c.args.self.now c.open.new.self c.read_steps.new.self c.in_ok-growing.ensures c.in_ok-read_steps.ensures.begun
 
 pub read_part-returns-then-not-is_told-clause-begun : goal.read_part-returns-then-not-is_told-clause-begun
-read_part-returns-then-not-is_told-clause-begun t c = opened_begun c.args.part _ c.args.self.now _ _ c.in_ok-growing.ensures c.in_ok-read_steps.ensures.begun
+read_part-returns-then-not-is_told-clause-begun t c = opened_begun c.args.part _ c.args.self.now c.open.new.self c.read_steps.new.self c.in_ok-growing.ensures c.in_ok-read_steps.ensures.begun
 
 pub read_part-returns-clause-begun : goal.read_part-returns-clause-begun
 read_part-returns-clause-begun t c =
-    let begun = opened_begun c.args.part _ c.args.self.now _ c.read_steps.new.self c.in_ok-growing.ensures c.in_ok-read_steps.ensures.begun in
+    let begun = opened_begun c.args.part _ c.args.self.now c.open.new.self c.read_steps.new.self c.in_ok-growing.ensures c.in_ok-read_steps.ensures.begun in
     subst (λ (n : ℕ). OfNewLook c.args.self.now.looked c.args.self.now.cursor n (Starts c.args.self.now.prefix.now (one_part c.args.part))) (sym (ap (λ (r : Reader). r.looked) c.finish.ensures.kept)) begun
 
 pub read_member-returns-in-Some-clause-begun : goal.read_member-returns-in-Some-clause-begun
@@ -647,8 +648,8 @@ read_closed-returns-then-not-branch-clause-begun t c =
 pub read_closed-returns-clause-begun : goal.read_closed-returns-clause-begun
 read_closed-returns-clause-begun t c =
     let old = c.args.self.now in
-    look_as old.looked _ old.cursor (Starts old.prefix.now (one_part part.InlineBody)) (MemberStarts old.prefix.now class.ActionBody) (λ text x. (part.InlineBody, inline_body, x))
-    (begun_over c.args.depth part.InlineBody old c.read_part.new.self _ _ c.if-not-branch.false c.in_ok-read_part.ensures.chosen c.closes.ensures.looked c.in_ok-read_part.ensures.begun c.closes.ensures.begun)
+    look_as old.looked c.closes.new.self.looked old.cursor (Starts old.prefix.now (one_part part.InlineBody)) (MemberStarts old.prefix.now class.ActionBody) (λ text x. (part.InlineBody, inline_body, x))
+    (begun_over c.args.depth part.InlineBody old c.read_part.new.self c.closes.new.self _ c.if-not-branch.false c.in_ok-read_part.ensures.chosen c.closes.ensures.looked c.in_ok-read_part.ensures.begun c.closes.ensures.begun)
 
 pub read_below-returns-in-Line-clause-begun : goal.read_below-returns-in-Line-clause-begun
 read_below-returns-in-Line-clause-begun t c = look_same c.args.self.now.looked c.args.self.now.looked c.args.self.now.cursor _ (omega arith)

@@ -15,6 +15,7 @@ returns-in-Whole c =
       tells = λ n le far text like.
           let x = table_like n c.args.self.now.cursor c.in-Whole.place text _ taken.0 taken.1 far like in
           (x.0, record { first = search rules; reads = x.1; new_is = refl }, x.2);
+      begun = ?;
     }
 
 pub returns-in-Broken-clause-tells : goal.returns-in-Broken-clause-tells
