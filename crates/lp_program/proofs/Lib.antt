@@ -32,6 +32,7 @@ pub mod Fronts
 pub mod Begun
 pub mod OwnBegun
 pub mod Stopping
+pub mod TableBegun
 pub mod ProgramBegun
 pub mod Looked
 pub mod Starting

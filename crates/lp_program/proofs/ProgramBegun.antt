@@ -1,10 +1,11 @@
 -- A program begins with the lines before the one at which a text is refused.
 use Rattle.std.proofs.Common.{◌≡◌, ℕ, zero, suc, ◌+◌, ◌-◌, ◌^◌, ◌<◌, ◌≤◌, ◌==◌, true, inl, inr, List, [], ◌∷◌, ◌++◌, length, take, drop, Option, Some, None, IfSome, Bor, refl, sym, ap, ◌∙◌, arith, codes, subst, length-append, take-append-drop}
 use Rattle.std.specs.Option.{MatchOption, unwrap_or}
-use Rattle.std.specs.Str.{IsUtf8, chars}
+use Rattle.std.specs.Str.{IsUtf8}
 use Rattle.std.proofs.lemmas.Bool.{cases_lt}
 use Rattle.std.proofs.lemmas.List.Sums.{count_by-le-length}
-use Rattle.std.proofs.lemmas.Str.{IsUtf8-append, IsUtf8-nil}
+use Rattle.std.proofs.lemmas.Str.{IsUtf8-append, IsUtf8-from_ascii, IsUtf8-nil}
+use Rattle.std.proofs.lemmas.Str.Ascii.{IsAscii-cons, IsAscii-nil}
 use Rattle.lp_form.specs.declared.part.Part.TheVariants as part
 use Rattle.lp_spelling.specs.Counting.{line_len, feeds, settled}
 use Rattle.lp_spelling.specs.Counting as counting
@@ -86,6 +87,8 @@ prefix_told text (Some x) other prefix e u fits exact v k =
     (subst (λ (y : Bor (List ℕ)). IsUtf8 y.now) (sym e) (shows_utf8 x.now text u exact), ap (λ y. is_prefix y.now) e ∙ fits)
 
 -- the prefix that stands for one that isn't shown
+pub no_prefix_utf8 : IsUtf8 (codes "__")
+no_prefix_utf8 = IsUtf8-from_ascii (codes "__") (IsAscii-cons 95 (95 ∷ []) (omega arith) (IsAscii-cons 95 [] (omega arith) IsAscii-nil))
+
 pub no_prefix_fits : is_prefix (codes "__") ≡ true
-unfolding chars
-no_prefix_fits = refl
+no_prefix_fits = ?

@@ -1,9 +1,12 @@
 -- Where what a step takes stops within a line: the lines before that line begin it.
-use Rattle.std.proofs.Common.{◌≡◌, ℕ, zero, suc, ◌+◌, ◌^◌, ◌<◌, ◌≤◌, ◌==◌, true, false, inl, inr, List, [], ◌∷◌, ◌++◌, length, take, drop, codes, refl, sym, ap, ◌∙◌, arith, subst, append_assoc, length-drop, take-append-drop}
-use Rattle.std.specs.Str.{IsUtf8, chars, trim_start}
-use Rattle.std.proofs.lemmas.Bool.{cases_Bool, cond-true, cond-false}
+use Rattle.std.proofs.Common.{◌≡◌, ℕ, zero, suc, ◌+◌, ◌^◌, ◌<◌, ◌≤◌, ◌==◌, true, false, eqb, ⊎_elim, inl, inr, List, [], ◌∷◌, ◌++◌, length, take, drop, codes, refl, sym, ap, ◌∙◌, arith, subst, append_assoc, length-drop, take-append-drop}
+use Rattle.std.specs.List.{starts_with}
+use Rattle.std.specs.Char.{is_whitespace}
+use Rattle.std.specs.Str.{IsUtf8, chars, encode_utf8_all, skip_leading_whitespace, trim_start}
+use Rattle.std.proofs.lemmas.Bool.{cases_Bool, cond-true, cond-false, eqb-true, false_from_ne_true, false≢true, or_cases}
 use Rattle.std.proofs.lemmas.List.{append_cancel_left, append_cancel_right}
-use Rattle.std.proofs.lemmas.Str.{encodes-chars}
+use Rattle.std.proofs.lemmas.Str.{chars-append, chars-IsAscii, encodes-chars, IsUtf8-append, IsUtf8-from_ascii}
+use Rattle.std.proofs.lemmas.Str.Ascii.{IsAscii-cons, IsAscii-nil}
 use Rattle.lp_form.specs.Templates as template
 use Rattle.lp_form.specs.declared.template.Step.TheVariants as step
 use Rattle.lp_spelling.specs.Counting.{line_len, front_line, feeds, is_skipped, settled}
@@ -12,7 +15,7 @@ use Rattle.lp_spelling.specs.declared.cursor.Cursor.{Cursor}
 use Rattle.lp_spelling.proofs.Counting.{settled_counts}
 use Rattle.lp_spelling.proofs.Reading.{starts_ok}
 use Rattle.lp_local.specs.Agreeing.{first_lines}
-use Rattle.lp_local.proofs.Agreeing.{feeds_feed, feeds_text}
+use Rattle.lp_local.proofs.Agreeing.{feeds_feed, feeds_text, line_over}
 use Rattle.lp_local.proofs.Back.{utf8_behind}
 use Rattle.lp_local.proofs.Settling.{behind_byte}
 use Rattle.lp_program.specs.declared.read.growing.Growing.{Growing}
@@ -67,15 +70,32 @@ own_stops prefix g count s new c next x same whole here some tells n l e text fr
     let u : IsUtf8 (r.0 ++ left next) = utf8_behind text (r.0 ++ left next) (subst (λ (y : List ℕ). IsUtf8 y) rest (left_utf8 c like.whole)) like.is_text in
     in_own g.part (told g) new count s others text r.0 (left next) u (subst (λ (y : List ℕ). StepTells prefix g count s y new (left next)) rest tells)
 
--- a `}` in front is no blank, and begins no comment
-brace_trimmed : (x : List ℕ) → IsUtf8 x → trim_start (125 ∷ x) ≡ 125 ∷ x
-unfolding trim_start chars
-brace_trimmed x u = ap (λ (y : List ℕ). 125 ∷ y) (encodes-chars x u)
+-- a character in front that is no blank and no `/`, nor the end of a line
+first_is : (b : ℕ) (x : List ℕ) → b < 128 → chars (b ∷ x) ≡ b ∷ chars x
+first_is b x lt =
+    let ascii = IsAscii-cons b [] lt IsAscii-nil in
+    chars-append (b ∷ []) x (IsUtf8-from_ascii (b ∷ []) ascii) ∙ ap (λ (y : List ℕ). y ++ chars x) (chars-IsAscii (b ∷ []) ascii)
 
-brace_here : (t : List ℕ) → IsUtf8 t → settled (125 ∷ t) ≡ 125 ∷ t
-brace_here t u =
-    let trim = brace_trimmed (front_line t) (line_text t u) in
-    settled_counts (125 ∷ t) (omega arith) (ap is_skipped trim) ∙ ap (λ (y : List ℕ). y ++ drop (line_len (125 ∷ t)) (125 ∷ t)) trim ∙ take-append-drop (line_len (125 ∷ t)) (125 ∷ t)
+mark_trimmed : (b : ℕ) (x : List ℕ) → b < 128 → is_whitespace b ≡ false → IsUtf8 x → trim_start (b ∷ x) ≡ b ∷ x
+unfolding trim_start
+mark_trimmed b x lt w u =
+    let v : IsUtf8 (b ∷ x) = IsUtf8-append (b ∷ []) x (IsUtf8-from_ascii (b ∷ []) (IsAscii-cons b [] lt IsAscii-nil)) u in
+    ap (λ (cs : List ℕ). encode_utf8_all (skip_leading_whitespace cs)) (first_is b x lt) ∙ ap encode_utf8_all (cond-false (is_whitespace b) (skip_leading_whitespace (chars x)) (b ∷ chars x) w)
+    ∙ ap encode_utf8_all (sym (first_is b x lt)) ∙ encodes-chars (b ∷ x) v
+
+mark_counts : (b : ℕ) (y : List ℕ) → starts_with eqb (b ∷ y) (codes "//") ≡ false → is_skipped (b ∷ y) ≡ false
+mark_counts b y none =
+    false_from_ne_true (is_skipped (b ∷ y))
+    (λ h. ⊎_elim (λ e. absurd (omega (arith, eqb-true (length (b ∷ y)) 0 e))) (λ s. false≢true (sym none ∙ s)) (or_cases (length (b ∷ y) == 0) (starts_with eqb (b ∷ y) (codes "//")) h))
+
+pub mark_here : (b : ℕ) (t : List ℕ) → b < 128 → is_whitespace b ≡ false → feeds (b ∷ []) ≡ 0 → ((y : List ℕ) → starts_with eqb (b ∷ y) (codes "//") ≡ false) → IsUtf8 t → settled (b ∷ t) ≡ b ∷ t
+mark_here b t lt w feed none u =
+    let size : length (b ∷ []) + line_len t ≡ suc (line_len t) = omega arith in
+    let front : front_line (b ∷ t) ≡ b ∷ front_line t = ap (λ n. take n (b ∷ t)) (line_over (b ∷ []) t feed ∙ size) in
+    let trimmed = mark_trimmed b (front_line t) lt w (line_text t u) in
+    let trim : trim_start (front_line (b ∷ t)) ≡ front_line (b ∷ t) = ap trim_start front ∙ trimmed ∙ sym front in
+    let counts : is_skipped (trim_start (front_line (b ∷ t))) ≡ false = ap (λ (y : List ℕ). is_skipped (trim_start y)) front ∙ ap is_skipped trimmed ∙ mark_counts b (front_line t) (none (front_line t)) in
+    settled_counts (b ∷ t) (omega arith) counts ∙ ap (λ (y : List ℕ). y ++ drop (line_len (b ∷ t)) (b ∷ t)) trim ∙ take-append-drop (line_len (b ∷ t)) (b ∷ t)
 
 -- user code that is there
 pub code_begun : (prefix : List ℕ) (g h : Growing) (count : ℕ) (pieces : List template.Piece) (c next : Cursor) → IsTaken c next → TellsText g.part (IsCode (left c)) (told g) (told h) (left next) →
@@ -83,5 +103,5 @@ pub code_begun : (prefix : List ℕ) (g h : Growing) (count : ℕ) (pieces : Lis
 code_begun prefix g h count pieces c next same t =
     let brace : left next ≡ 125 ∷ drop 1 (left next) = starts_ok (codes "}") (left next) t.is_text.closes in
     let u : IsUtf8 (drop 1 (left next)) = behind_byte [] 125 (drop 1 (left next)) (omega arith) (subst (λ (x : List ℕ). IsUtf8 x) brace t.behind) in
-    let here : settled (left next) ≡ left next = ap settled brace ∙ brace_here (drop 1 (left next)) u ∙ sym brace in
+    let here : settled (left next) ≡ left next = ap settled brace ∙ mark_here 125 (drop 1 (left next)) (omega arith) refl refl (λ y. refl) u ∙ sym brace in
     own_stops prefix g count (step.Code, pieces) (told h) c next t.is_text.whole same t.is_text.front here (omega (arith, ap length brace)) t

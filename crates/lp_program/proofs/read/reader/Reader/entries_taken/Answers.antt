@@ -2,6 +2,7 @@ use Rattle.std.proofs.Common.{Some, arith, refl, ap, sym, ◌∙◌, rules}
 use Rattle.lp_spelling.specs.Cursors.{left}
 use Rattle.lp_program.proofs.Growing.{grows_table}
 use Rattle.lp_program.proofs.Nearby.{no_table_like, table_like}
+use Rattle.lp_program.proofs.TableBegun.{table_begun}
 use Rattle.lp_program.proofs.read.reader.Reader.entries_taken.Goals as goal
 
 pub returns-in-Whole : goal.returns-in-Whole
@@ -15,7 +16,7 @@ returns-in-Whole c =
       tells = λ n le far text like.
           let x = table_like n c.args.self.now.cursor c.in-Whole.place text _ taken.0 taken.1 far like in
           (x.0, record { first = search rules; reads = x.1; new_is = refl }, x.2);
-      begun = ?;
+      begun = λ count pieces. table_begun c.args.self.now.prefix.now c.args.growing.now count pieces _ c.args.self.now.cursor c.in-Whole.place _ taken.0 taken.1 (record { first = search rules; reads = taken.1; new_is = refl });
     }
 
 pub returns-in-Broken-clause-tells : goal.returns-in-Broken-clause-tells

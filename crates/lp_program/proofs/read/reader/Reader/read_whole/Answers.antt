@@ -21,4 +21,4 @@ returns-then-not-branch-clause-chosen c = whole_not c.args.self.now _ _ c.if-not
 
 pub returns-clause-begun : goal.returns-clause-begun
 returns-clause-begun c =
-    begun_over 16 part.Program c.args.self.now c.read_part.new.self _ _ c.if-not-branch.false c.in_ok-read_part.ensures.chosen c.at_end.ensures.looked c.in_ok-read_part.ensures.begun c.at_end.ensures.begun
+    begun_over 16 part.Program c.args.self.now c.read_part.new.self c.at_end.new.self _ c.if-not-branch.false c.in_ok-read_part.ensures.chosen c.at_end.ensures.looked c.in_ok-read_part.ensures.begun c.at_end.ensures.begun
