@@ -33,6 +33,7 @@ pub mod Begun
 pub mod OwnBegun
 pub mod Stopping
 pub mod TableBegun
+pub mod UseBegun
 pub mod ProgramBegun
 pub mod Looked
 pub mod Starting

@@ -123,7 +123,7 @@ number_at_line place text count lt =
     let both = feeds-append (take place text) (drop place text) in
     cond-true (ltb place (length text)) (line_number (feeds (take place text))) (past_last text) (lt-ltb place (length text) lt) ∙ omega (arith, all, both, count)
 
-number_at_end : (place : ℕ) (text : List ℕ) → length text ≤ place → number_at place text ≡ past_last text
+pub number_at_end : (place : ℕ) (text : List ℕ) → length text ≤ place → number_at place text ≡ past_last text
 number_at_end place text le = cond-false (ltb place (length text)) (line_number (feeds (take place text))) (past_last text) (le-ltb place (length text) le)
 
 -- the line of the next text that counts was looked at
@@ -325,25 +325,30 @@ no_line_like n c text prefix kinds pieces old none le like x rest t = elim (next
 ]
 
 -- what is taken off ends on a line that was looked at
-taken_before : (n : ℕ) (c next : Cursor) → IsTaken c next → IsUtf8 c.text.now → feeds c.text.now + 1 < 2 ^ 64 → next_number next ≤ n → (x : List ℕ) → left c ≡ x ++ left next → (feeds (front_of c) + feeds x < n) × (feeds (left c) ≡ feeds x + feeds (left next))
-taken_before n c next same u count far x e =
-    let place = place_before n next (subst IsUtf8 (sym same) u) (omega (arith, ap feeds same, count)) far in
+taken_at : (n : ℕ) (c next : Cursor) → IsTaken c next → feeds (front_of next) < n → (x : List ℕ) → left c ≡ x ++ left next → (feeds (front_of c) + feeds x < n) × (feeds (left c) ≡ feeds x + feeds (left next))
+taken_at n c next same place x e =
     let front = ap feeds (front_next c next x same e) ∙ feeds-append (front_of c) x in
     (omega (arith, place, front), ap feeds e ∙ feeds-append x (left next))
+
+next_place : (n : ℕ) (c next : Cursor) → IsTaken c next → IsUtf8 c.text.now → feeds c.text.now + 1 < 2 ^ 64 → next_number next ≤ n → feeds (front_of next) < n
+next_place n c next same u count far = place_before n next (subst IsUtf8 (sym same) u) (omega (arith, ap feeds same, count)) far
+
+taken_before : (n : ℕ) (c next : Cursor) → IsTaken c next → IsUtf8 c.text.now → feeds c.text.now + 1 < 2 ^ 64 → next_number next ≤ n → (x : List ℕ) → left c ≡ x ++ left next → (feeds (front_of c) + feeds x < n) × (feeds (left c) ≡ feeds x + feeds (left next))
+taken_before n c next same u count far x e = taken_at n c next same (next_place n c next same u count far) x e
 
 -- a use that is there
 pub use_whole : (used rest : List ℕ) → codes "use " ++ (used ++ (codes ";" ++ rest)) ≡ (codes "use " ++ (used ++ codes ";")) ++ rest
 use_whole used rest = ap (λ (x : List ℕ). codes "use " ++ x) (sym (append_assoc used (codes ";") rest))
 
-pub use_like : (n : ℕ) (c next : Cursor) (text used : List ℕ) → IsTaken c next → IsUse (left c) used (left next) → next_number c ≤ n → next_number next ≤ n → Like n c text →
+pub use_near : (n : ℕ) (c next : Cursor) (text used : List ℕ) → IsTaken c next → IsUse (left c) used (left next) → next_number c ≤ n → feeds (front_of next) < n → Like n c text →
     (rest : List ℕ) × IsUse text used rest × Moves n c next text rest
-use_like n c next text used same is le far like =
+use_near n c next text used same is le far like =
     let x : List ℕ = codes "use " ++ (used ++ codes ";") in
     let whole : settled (left c) ≡ x ++ left next = is.front ∙ use_whole used (left next) in
     let size : length (settled (left c)) ≡ length (codes "use ") + length (used ++ (codes ";" ++ left next)) = ap length is.front ∙ length-append (codes "use ") (used ++ (codes ";" ++ left next)) in
     let s = next_shared n c text le (omega (arith, size)) like in
     let front : left c ≡ (s.front ++ x) ++ left next = s.a_is ∙ ap (λ (y : List ℕ). s.front ++ y) whole ∙ sym (append_assoc s.front x (left next)) in
-    let b = taken_before n c next same like.whole like.counted far (s.front ++ x) front in
+    let b = taken_at n c next same far (s.front ++ x) front in
     let lines = b.0 in
     let parts = b.1 in
     let z = use_shared (n - feeds (front_of c)) (left c) used (left next) text (left_utf8 c like.whole) is.front is.stops is.ends (omega (arith, lines, parts)) (like_left n c text (omega (arith, lines)) like) in
@@ -352,6 +357,10 @@ use_like n c next text used same is le far like =
     = s.b_is ∙ ap (λ (y : List ℕ). s.front ++ y) (z.front ∙ sym (append_assoc (codes "use ") used (codes ";" ++ z.other))) ∙ sym (append_assoc s.front (codes "use " ++ used) (59 ∷ z.other)) in
     let u : IsUtf8 z.other = behind_byte (s.front ++ (codes "use " ++ used)) 59 z.other (omega arith) (subst IsUtf8 closed like.is_text) in
     (z.other, record { front = z.front; stops = z.stops; ends = z.ends }, moves_front n c next (s.front ++ x) text z.other same front there u like)
+
+pub use_like : (n : ℕ) (c next : Cursor) (text used : List ℕ) → IsTaken c next → IsUse (left c) used (left next) → next_number c ≤ n → next_number next ≤ n → Like n c text →
+    (rest : List ℕ) × IsUse text used rest × Moves n c next text rest
+use_like n c next text used same is le far like = use_near n c next text used same is le (next_place n c next same like.whole like.counted far) like
 
 -- user code that is there
 pub code_like : (n : ℕ) (c next : Cursor) (text code : List ℕ) → IsTaken c next → IsCode (left c) code (left next) → next_number next ≤ n → Like n c text →

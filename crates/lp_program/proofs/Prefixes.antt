@@ -182,7 +182,7 @@ name_answered text there line rest name i (Some p) s t at e f =
     s.on p.now (shown there rest (subst (λ (l : List ℕ). TakesLine l there rest) (at ∙ ap (λ (x : List ℕ). renaming ++ x) e) t) f)
 
 -- in a text of line feeds alone nothing counts, and so no prefix is shown
-none_skipped : is_skipped (trim_start []) ≡ true
+pub none_skipped : is_skipped (trim_start []) ≡ true
 unfolding trim_start chars
 none_skipped = refl
 

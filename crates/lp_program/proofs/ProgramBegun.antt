@@ -1,10 +1,18 @@
 -- A program begins with the lines before the one at which a text is refused.
-use Rattle.std.proofs.Common.{◌≡◌, ℕ, zero, suc, ◌+◌, ◌-◌, ◌^◌, ◌<◌, ◌≤◌, ◌==◌, true, inl, inr, List, [], ◌∷◌, ◌++◌, length, take, drop, Option, Some, None, IfSome, Bor, refl, sym, ap, ◌∙◌, arith, codes, subst, length-append, take-append-drop}
+use Rattle.std.proofs.Common.{◌≡◌, ℕ, zero, suc, ◌+◌, ◌-◌, ◌^◌, ◌<◌, ◌≤◌, ◌==◌, ◌&&◌, ◌||◌, Bool, true, not, ltb, ⊎_elim, inl, inr, List, [], ◌∷◌, ◌++◌, length, take, drop, Option, Some, None, IfSome, Bor, refl, sym, ap, ◌∙◌, arith, codes, subst, length-append, take-append-drop}
 use Rattle.std.specs.Option.{MatchOption, unwrap_or}
-use Rattle.std.specs.Str.{IsUtf8}
-use Rattle.std.proofs.lemmas.Bool.{cases_lt}
+use Rattle.std.specs.Prelude.{slice_index}
+use Rattle.std.specs.Char.{is_ascii_alphanumeric}
+use Rattle.std.specs.List.{list_all}
+use Rattle.std.specs.Str.{IsUtf8, chars}
+use Rattle.unicode_ident.specs.Ident.{is_xid_start, is_xid_continue}
+use Rattle.unicode_ident.proofs.IdentLemmas.{is_xid_continue-ascii}
+use Rattle.lp_repr.specs.Names.{same_text}
+use Rattle.lp_tok.specs.Scans.{starts_word, continues_word}
+use Rattle.lp_texts.specs.Identifiers as identifier
+use Rattle.std.proofs.lemmas.Bool.{and_from, and_parts, cases_lt, ltb-true, or_cases, or_left, or_right}
 use Rattle.std.proofs.lemmas.List.Sums.{count_by-le-length}
-use Rattle.std.proofs.lemmas.Str.{IsUtf8-append, IsUtf8-from_ascii, IsUtf8-nil}
+use Rattle.std.proofs.lemmas.Str.{chars-IsAscii, IsUtf8-append, IsUtf8-from_ascii, IsUtf8-nil}
 use Rattle.std.proofs.lemmas.Str.Ascii.{IsAscii-cons, IsAscii-nil}
 use Rattle.lp_form.specs.declared.part.Part.TheVariants as part
 use Rattle.lp_spelling.specs.Counting.{line_len, feeds, settled}
@@ -90,5 +98,32 @@ prefix_told text (Some x) other prefix e u fits exact v k =
 pub no_prefix_utf8 : IsUtf8 (codes "__")
 no_prefix_utf8 = IsUtf8-from_ascii (codes "__") (IsAscii-cons 95 (95 ∷ []) (omega arith) (IsAscii-cons 95 [] (omega arith) IsAscii-nil))
 
+-- letters of ASCII, digits and `_` go on with a word
+is_plain : ℕ → Bool
+is_plain c = ltb c 128 && (is_ascii_alphanumeric c || (c == 95))
+
+plain_continues : (c : ℕ) → is_plain c ≡ true → continues_word c ≡ true
+plain_continues c h =
+    let p = and_parts (ltb c 128) (is_ascii_alphanumeric c || (c == 95)) h in
+    ⊎_elim
+    (λ a. or_left (is_xid_continue c) (c == 95) (is_xid_continue-ascii c (ltb-true c 128 p.0) ∙ a))
+    (λ u. or_right (is_xid_continue c) (c == 95) u)
+    (or_cases (is_ascii_alphanumeric c) (c == 95) p.1)
+
+all_continue : (cs : List ℕ) → list_all is_plain cs ≡ true → list_all continues_word cs ≡ true
+all_continue [] h = refl
+all_continue (c ∷ cs) h =
+    let p = and_parts (is_plain c) (list_all is_plain cs) h in
+    and_from (continues_word c) (list_all continues_word cs) (plain_continues c p.0) (all_continue cs p.1)
+
+ascii_at : (t : List ℕ) → list_all (λ b. ltb b 128) t ≡ true → (i : ℕ) → slice_index t i < 128
+ascii_at [] h i = omega arith
+ascii_at (b ∷ t) h zero = ltb-true b 128 (and_parts (ltb b 128) (list_all (λ b. ltb b 128) t) h).0
+ascii_at (b ∷ t) h (suc i) = ascii_at t (and_parts (ltb b 128) (list_all (λ b. ltb b 128) t) h).1 i
+
 pub no_prefix_fits : is_prefix (codes "__") ≡ true
-no_prefix_fits = ?
+no_prefix_fits =
+    let name : List ℕ = codes "__lalrpop_util" in
+    let same : chars name ≡ name = chars-IsAscii name (ascii_at name refl) in
+    let word : identifier.is_word name ≡ true = and_from (starts_word 95) (list_all continues_word (codes "_lalrpop_util")) (or_right (is_xid_start 95) (95 == 95) refl) (all_continue (codes "_lalrpop_util") refl) in
+    and_from (not (same_text name (codes "_"))) (identifier.is_word (chars name)) refl (ap identifier.is_word same ∙ word)

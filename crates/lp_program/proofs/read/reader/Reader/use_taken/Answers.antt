@@ -4,6 +4,7 @@ use Rattle.lp_program.specs.Telling.{told}
 use Rattle.lp_program.specs.Nearby.{next_number}
 use Rattle.lp_program.proofs.Begun.{look_same}
 use Rattle.lp_program.proofs.OwnBegun.{no_use_first}
+use Rattle.lp_program.proofs.UseBegun.{use_begun}
 use Rattle.lp_program.proofs.Telling.{blank_not, blank_part, use_told, no_use_told}
 use Rattle.lp_program.proofs.read.reader.Reader.use_taken.Goals as goal
 
@@ -22,7 +23,7 @@ returns-in-Some c =
     record {
       takes = λ count pieces. record { grows = step.grows c.args.self.now.prefix.now; takes = step.takes };
       tells = λ n le far text like. use_told n c.args.self.now.cursor c.in-Some.place text c.args.growing.now.part (told c.args.growing.now) _ step.tells step.same le far like;
-      begun = ?;
+      begun = λ count pieces. use_begun c.args.self.now.prefix.now c.args.growing.now c.use_step.new.growing count pieces c.args.self.now.cursor c.in-Some.place step.same step.tells;
     }
 
 pub returns-else-not-is_use_first-clause-tells : goal.returns-else-not-is_use_first-clause-tells
