@@ -99,7 +99,7 @@ pub no_prefix_utf8 : IsUtf8 (codes "__")
 no_prefix_utf8 = IsUtf8-from_ascii (codes "__") (IsAscii-cons 95 (95 ∷ []) (omega arith) (IsAscii-cons 95 [] (omega arith) IsAscii-nil))
 
 -- letters of ASCII, digits and `_` go on with a word
-is_plain : ℕ → Bool
+abbrev is_plain : ℕ → Bool
 is_plain c = ltb c 128 && (is_ascii_alphanumeric c || (c == 95))
 
 plain_continues : (c : ℕ) → is_plain c ≡ true → continues_word c ≡ true
