@@ -1,5 +1,5 @@
 -- A program begins with the lines before the one at which a text is refused.
-use Rattle.std.proofs.Common.{◌≡◌, ℕ, zero, suc, ◌+◌, ◌-◌, ◌^◌, ◌<◌, ◌≤◌, ◌==◌, ◌&&◌, ◌||◌, Bool, true, not, ltb, ⊎_elim, inl, inr, List, [], ◌∷◌, ◌++◌, length, take, drop, Option, Some, None, IfSome, Bor, refl, sym, ap, ◌∙◌, arith, codes, subst, length-append, take-append-drop}
+use Rattle.std.proofs.Common.{◌≡◌, ℕ, zero, suc, ◌+◌, ◌-◌, ◌^◌, ◌<◌, ◌≤◌, ◌==◌, ◌&&◌, ◌||◌, Bool, true, not, ltb, inl, inr, List, [], ◌∷◌, ◌++◌, length, take, drop, Option, Some, None, IfSome, Bor, refl, sym, ap, ◌∙◌, arith, codes, subst, length-append, take-append-drop}
 use Rattle.std.specs.Option.{MatchOption, unwrap_or}
 use Rattle.std.specs.Prelude.{slice_index}
 use Rattle.std.specs.Char.{is_ascii_alphanumeric}
@@ -10,7 +10,7 @@ use Rattle.unicode_ident.proofs.IdentLemmas.{is_xid_continue-ascii}
 use Rattle.lp_repr.specs.Names.{same_text}
 use Rattle.lp_tok.specs.Scans.{starts_word, continues_word}
 use Rattle.lp_texts.specs.Identifiers as identifier
-use Rattle.std.proofs.lemmas.Bool.{and_from, and_parts, cases_lt, ltb-true, or_cases, or_left, or_right}
+use Rattle.std.proofs.lemmas.Bool.{and_from, and_parts, cases_lt, ltb-true, or_left, or_right}
 use Rattle.std.proofs.lemmas.List.Sums.{count_by-le-length}
 use Rattle.std.proofs.lemmas.Str.{chars-IsAscii, IsUtf8-append, IsUtf8-from_ascii, IsUtf8-nil}
 use Rattle.std.proofs.lemmas.Str.Ascii.{IsAscii-cons, IsAscii-nil}
@@ -105,10 +105,7 @@ is_plain c = ltb c 128 && (is_ascii_alphanumeric c || (c == 95))
 plain_continues : (c : ℕ) → is_plain c ≡ true → continues_word c ≡ true
 plain_continues c h =
     let p = and_parts (ltb c 128) (is_ascii_alphanumeric c || (c == 95)) h in
-    ⊎_elim
-    (λ a. or_left (is_xid_continue c) (c == 95) (is_xid_continue-ascii c (ltb-true c 128 p.0) ∙ a))
-    (λ u. or_right (is_xid_continue c) (c == 95) u)
-    (or_cases (is_ascii_alphanumeric c) (c == 95) p.1)
+    or_left (is_xid_continue c) (c == 95) (is_xid_continue-ascii c (ltb-true c 128 p.0) ∙ p.1)
 
 all_continue : (cs : List ℕ) → list_all is_plain cs ≡ true → list_all continues_word cs ≡ true
 all_continue [] h = refl
