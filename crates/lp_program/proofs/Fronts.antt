@@ -14,11 +14,17 @@ use Rattle.lp_program.specs.Starting.{FrontLike}
 use Rattle.lp_program.proofs.Nearby.{number_at_line}
 
 -- a text goes on behind its first lines
-lines_part : (n : ℕ) (t : List ℕ) → (rest : List ℕ) × (t ≡ first_lines n t ++ rest)
+pub lines_part : (n : ℕ) (t : List ℕ) → (rest : List ℕ) × (t ≡ first_lines n t ++ rest)
 unfolding first_lines
 lines_part n [] = ([], refl)
 lines_part zero (b ∷ t) = (b ∷ t, refl)
 lines_part (suc n) (b ∷ t) = let r = lines_part (cond (b == 10) n (suc n)) t in (r.0, ap (λ (x : List ℕ). b ∷ x) r.1)
+
+pub lines_again_of : (n : ℕ) (t : List ℕ) → Agree n (first_lines n t) t
+unfolding first_lines
+lines_again_of n [] = refl
+lines_again_of zero (b ∷ t) = refl
+lines_again_of (suc n) (b ∷ t) = ap (λ (x : List ℕ). b ∷ x) (lines_again_of (cond (b == 10) n (suc n)) t)
 
 -- a text with the same first lines as another, and no more of it, is these lines
 lines_alone : (n : ℕ) (y w : List ℕ) → Agree n y w → length y ≡ length (first_lines n w) → y ≡ first_lines n w

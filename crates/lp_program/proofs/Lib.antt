@@ -29,6 +29,13 @@ pub mod Nearby
 pub mod Spelled
 pub mod ChosenReads
 pub mod Fronts
+pub mod Begun
+pub mod OwnBegun
+pub mod Stopping
+pub mod TableBegun
+pub mod UseBegun
+pub mod ProgramBegun
+pub mod Looked
 pub mod Starting
 pub mod Opened
 pub mod Steps
