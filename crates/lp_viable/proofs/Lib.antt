@@ -1,3 +1,4 @@
 pub mod Fillings
 pub mod Least
 pub mod Moving
+pub mod TableMoved
