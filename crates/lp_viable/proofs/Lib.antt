@@ -2,3 +2,4 @@ pub mod Fillings
 pub mod Least
 pub mod Moving
 pub mod TableMoved
+pub mod Behind

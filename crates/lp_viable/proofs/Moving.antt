@@ -329,10 +329,10 @@ closed_told used rest other u stops =
     subst (λ (x : List ℕ). StopsAt x (chars (codes ";" ++ other))) (sym (chars-append used (codes ";" ++ other) u))
     (stops_told (chars used) (chars (codes ";" ++ rest)) (chars (codes ";" ++ other)) begun (subst (λ (x : List ℕ). StopsAt x (chars (codes ";" ++ rest))) (chars-append used (codes ";" ++ rest) u) stops))
 
-abbrev use_line : List ℕ → List ℕ
+abbrev pub use_line : List ℕ → List ℕ
 use_line used = codes "use " ++ (used ++ codes ";")
 
-use_whole : (used rest : List ℕ) → codes "use " ++ (used ++ (codes ";" ++ rest)) ≡ use_line used ++ rest
+pub use_whole : (used rest : List ℕ) → codes "use " ++ (used ++ (codes ";" ++ rest)) ≡ use_line used ++ rest
 use_whole used rest = ap (λ (x : List ℕ). codes "use " ++ x) (sym (append_assoc used (codes ";") rest))
 
 several_again : (front y r q : List ℕ) → IsUtf8 (front ++ (y ++ 10 ∷ r)) → settled (front ++ (y ++ 10 ∷ r)) ≡ y ++ 10 ∷ r → settled (front ++ (y ++ 10 ∷ q)) ≡ y ++ 10 ∷ q
