@@ -3,3 +3,4 @@ pub mod Least
 pub mod Moving
 pub mod TableMoved
 pub mod Behind
+pub mod Within
