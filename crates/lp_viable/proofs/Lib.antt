@@ -4,3 +4,4 @@ pub mod Moving
 pub mod TableMoved
 pub mod Behind
 pub mod Within
+pub mod Parts
