@@ -5,3 +5,4 @@ pub mod TableMoved
 pub mod Behind
 pub mod Within
 pub mod Parts
+pub mod GoingOn
