@@ -6,3 +6,4 @@ pub mod Behind
 pub mod Within
 pub mod Parts
 pub mod GoingOn
+pub mod Trees
