@@ -1,7 +1,7 @@
 -- What is read of an ended text is read of it with more behind it too.
 use Rattle.std.proofs.Common.{◌≡◌, ℕ, ℤ, ◌+◌, ◌==◌, ◌||◌, ◌<◌, zero, suc, Bool, true, false, cond, inl, inr, ⊎_elim, List, [], ◌∷◌, ◌++◌, length, drop, codes, Option, Some, None, refl, sym, ap, ◌∙◌, subst, arith, eqb, ltb, append_assoc, append-nil}
 use Rattle.std.specs.List.{starts_with}
-use Rattle.std.specs.Str.{IsUtf8, chars}
+use Rattle.std.specs.Str.{IsUtf8}
 use Rattle.std.proofs.lemmas.Bool.{cases_Bool, cond-true, cond-false, or_cases, eqb-true}
 use Rattle.std.proofs.lemmas.List.{nil_from_length}
 use Rattle.lp_form.specs.Templates.{Piece}
@@ -13,7 +13,7 @@ use Rattle.lp_spelling.specs.LineReading.{◌>>=◌}
 use Rattle.lp_spelling.specs.TableReading.{blank_len, entry_in, Front, entry_front, front_after_blank, front_of, Table, with_number, goes_on_after, entries_within, entries}
 use Rattle.lp_spelling.specs.TableReading.Front.{feed, skip, ends, found_entry, wrong}
 use Rattle.lp_spelling.proofs.Reading.{starts_ok}
-use Rattle.lp_local.proofs.Settling.{Left, settled_left, behind_byte, from_byte}
+use Rattle.lp_local.proofs.Settling.{Left, settled_left, from_byte}
 use Rattle.lp_local.proofs.Tables.{entries_left}
 use Rattle.lp_program.specs.CodeReading.{IsUse, IsCode}
 use Rattle.lp_program.specs.OwnLines.{hole}
@@ -95,22 +95,22 @@ use_on text used rest u e c =
     let whole : text ≡ w ++ rest = l.whole ∙ ap (λ (x : List ℕ). l.front ++ x) (c.front ∙ use_whole used rest) ∙ sym (append_assoc l.front (use_line used) rest) in
     ⊎_elim
     (λ none. (
-      let nothing : rest ≡ [] = nil_from_length rest (eqb-true (length rest) 0 none) in
-      let text_is : text ≡ (l.front ++ (codes "use " ++ used)) ++ codes ";" =
-      whole ∙ ap (λ (x : List ℕ). w ++ x) nothing ∙ append-nil w ∙ ap (λ (x : List ℕ). l.front ++ x) (sym (append_assoc (codes "use ") used (codes ";"))) ∙ sym (append_assoc l.front (codes "use " ++ used) (codes ";")) in
-      absurd (elim (ended_behind (l.front ++ (codes "use " ++ used)) (codes ";") (subst (λ (x : List ℕ). IsEnded x) text_is e)) [ inl never ↦ cc | inr f ↦ closed_not f.0 f.1 ])))
+    let nothing : rest ≡ [] = nil_from_length rest (eqb-true (length rest) 0 none) in
+    let text_is : text ≡ (l.front ++ (codes "use " ++ used)) ++ codes ";" =
+    whole ∙ ap (λ (x : List ℕ). w ++ x) nothing ∙ append-nil w ∙ ap (λ (x : List ℕ). l.front ++ x) (sym (append_assoc (codes "use ") used (codes ";"))) ∙ sym (append_assoc l.front (codes "use " ++ used) (codes ";")) in
+    absurd (elim (ended_behind (l.front ++ (codes "use " ++ used)) (codes ";") (subst (λ (x : List ℕ). IsEnded x) text_is e)) [ inl never ↦ cc | inr f ↦ closed_not f.0 f.1 ])))
     (λ feed. (
-      let r : List ℕ = drop 1 rest in
-      let rest_is : rest ≡ 10 ∷ r = starts_ok (codes "\n") rest feed in
-      let v : IsUtf8 (w ++ rest) = subst (λ (x : List ℕ). IsUtf8 x) whole u in
-      record {
-        utf8 = subst (λ (x : List ℕ). IsUtf8 x) (sym rest_is) (from_byte w 10 r (omega arith) (subst (λ (x : List ℕ). IsUtf8 (w ++ x)) rest_is v));
-        ended = ended_behind w rest (subst (λ (x : List ℕ). IsEnded x) whole e);
-        on = λ x.
-            (let there : IsUse (w ++ 10 ∷ (r ++ x)) used (10 ∷ (r ++ x)) = use_moved w used rest (r ++ x) v (subst (λ (y : List ℕ). IsUse y used rest) whole c) in
-            let text_is : text ++ x ≡ w ++ 10 ∷ (r ++ x) = ap (λ (y : List ℕ). y ++ x) (whole ∙ ap (λ (y : List ℕ). w ++ y) rest_is) ∙ append_assoc w (10 ∷ r) x in
-            subst (λ (y : List ℕ). IsUse (text ++ x) used y) (sym (ap (λ (y : List ℕ). y ++ x) rest_is)) (subst (λ (y : List ℕ). IsUse y used (10 ∷ (r ++ x))) (sym text_is) there));
-      }))
+    let r : List ℕ = drop 1 rest in
+    let rest_is : rest ≡ 10 ∷ r = starts_ok (codes "\n") rest feed in
+    let v : IsUtf8 (w ++ rest) = subst (λ (x : List ℕ). IsUtf8 x) whole u in
+    record {
+      utf8 = subst (λ (x : List ℕ). IsUtf8 x) (sym rest_is) (from_byte w 10 r (omega arith) (subst (λ (x : List ℕ). IsUtf8 (w ++ x)) rest_is v));
+      ended = ended_behind w rest (subst (λ (x : List ℕ). IsEnded x) whole e);
+      on = λ x.
+          (let there : IsUse (w ++ 10 ∷ (r ++ x)) used (10 ∷ (r ++ x)) = use_moved w used rest (r ++ x) v (subst (λ (y : List ℕ). IsUse y used rest) whole c) in
+          let text_is : text ++ x ≡ w ++ 10 ∷ (r ++ x) = ap (λ (y : List ℕ). y ++ x) (whole ∙ ap (λ (y : List ℕ). w ++ y) rest_is) ∙ append_assoc w (10 ∷ r) x in
+          subst (λ (y : List ℕ). IsUse (text ++ x) used y) (sym (ap (λ (y : List ℕ). y ++ x) rest_is)) (subst (λ (y : List ℕ). IsUse y used (10 ∷ (r ++ x))) (sym text_is) there));
+    }))
     (or_cases (length rest == 0) (starts_with eqb rest (codes "\n")) c.ends)
 
 pub record CodeOn (text code rest : List ℕ) : Type 0 where

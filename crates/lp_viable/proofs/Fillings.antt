@@ -1,10 +1,9 @@
 -- Each kind of hole has a text that may stand in it, whatever the prefix.
-use Rattle.std.proofs.Common.{◌≡◌, ℕ, ◌==◌, ◌<◌, zero, suc, Bool, true, false, not, ◌&&◌, ◌||◌, cond, List, [], ◌∷◌, ◌++◌, length, get_or, drop, codes, refl, sym, ap, ◌∙◌, subst, arith, eqb, ltb, eq-eqb, inl, inr, length-append}
+use Rattle.std.proofs.Common.{◌≡◌, ℕ, ◌==◌, ◌<◌, zero, suc, true, false, not, ◌||◌, List, [], ◌∷◌, ◌++◌, length, get_or, drop, codes, refl, sym, ap, ◌∙◌, subst, arith, eqb, ltb, eq-eqb, inl, inr, length-append}
 use Rattle.std.specs.List.{list_all, starts_with}
 use Rattle.std.specs.Str.{IsUtf8, is_utf8, chars, bytes_eq}
 use Rattle.std.proofs.lemmas.Bool.{and_parts, and_from, and_left, or_from, cases_Bool, cond-true, cond-false, eqb-true, ne_eqb, ltb-true, le-ltb, not_from_false, both_ways}
 use Rattle.std.proofs.lemmas.List.{drop_at}
-use Rattle.std.proofs.lemmas.Slice.Eq.{bytes_eq-Decides}
 use Rattle.std.proofs.lemmas.Str.{chars-IsAscii, IsUtf8-append, IsUtf8-from_ascii, is_utf8-from_IsUtf8}
 use Rattle.unicode_ident.proofs.IdentLemmas.{is_xid_start-ascii}
 use Rattle.lp_form.specs.declared.template.Kind.{Kind}
@@ -15,8 +14,7 @@ use Rattle.lp_texts.specs.Identifiers as identifier
 use Rattle.lp_texts.specs.OneLine.{IsOneLine}
 use Rattle.lp_spelling.specs.HoleEnds.{is_word, first_at, place}
 use Rattle.lp_spelling.specs.Fillings.{holds, is_number, is_name, is_own, is_argument, is_element, joined_within, is_joined, is_look, are_filled, fits_behind, has_shape, line_part, Fits, Fills}
-use Rattle.lp_found.proofs.Words.{ascii_at, prefix_words, identifier_words}
-use Rattle.lp_found.proofs.Holding.{words_without}
+use Rattle.lp_found.proofs.Words.{ascii_at, identifier_words}
 use Rattle.lp_found.proofs.Plain.{one_line}
 use Rattle.lp_program.specs.Reads.{is_prefix}
 use Rattle.lp_laws.specs.WellFormed.{is_pattern}

@@ -8,7 +8,7 @@ use Rattle.lp_form.specs.declared.part.Part.{Part}
 use Rattle.lp_form.specs.declared.template.Step.{Step}
 use Rattle.lp_form.specs.declared.template.Step.TheVariants as step
 use Rattle.lp_program.specs.Printed.{is_member}
-use Rattle.lp_program.specs.Reads.{may_have, are_pairs, graft, parts_in}
+use Rattle.lp_program.specs.Reads.{may_have, graft, parts_in}
 use Rattle.lp_program.specs.Trees.{Forest}
 use Rattle.lp_program.specs.Trees.Forest.{bare, tree}
 use Rattle.lp_viable.specs.Least.{first_member}

@@ -12,7 +12,6 @@ use Rattle.lp_form.specs.Classes.{members_of}
 use Rattle.lp_form.specs.declared.part.Part.{Part}
 use Rattle.lp_form.specs.declared.part.Part.TheVariants as part
 use Rattle.lp_form.specs.declared.template.Kind.{Kind}
-use Rattle.lp_form.specs.declared.template.Kind.TheVariants as kind
 use Rattle.lp_form.specs.declared.template.Step.{Step}
 use Rattle.lp_form.specs.declared.template.Step.TheVariants as step
 use Rattle.lp_tok.specs.Cut.{StopsAt}
@@ -20,9 +19,9 @@ use Rattle.lp_tok.specs.Cut.Splits.{splits_none}
 use Rattle.lp_spelling.specs.Counting.{settled}
 use Rattle.lp_spelling.specs.LineReading.{kind_of}
 use Rattle.lp_spelling.specs.Lines.{line_of}
-use Rattle.lp_write.specs.Lines.{Line, lines_bytes, indent_after}
-use Rattle.lp_program.specs.OwnLines.{hole, spelled, own_lines}
-use Rattle.lp_program.specs.Reads.{may_have, graft, parts_in, hole_count, text_steps, is_prefix, KindsFill, TakesOwn, Task, Reads, trees, steps}
+use Rattle.lp_write.specs.Lines.{Line, lines_bytes}
+use Rattle.lp_program.specs.OwnLines.{hole, spelled}
+use Rattle.lp_program.specs.Reads.{may_have, graft, parts_in, hole_count, text_steps, is_prefix, Task, Reads, trees, steps}
 use Rattle.lp_program.specs.Reads.Reads.{no_tree, one_tree, no_step, one_step}
 use Rattle.lp_program.specs.Trees.{Content, Forest, tree_count}
 use Rattle.lp_program.specs.Trees.Forest.{bare, tree}
@@ -30,12 +29,12 @@ use Rattle.lp_texts.specs.Identifiers.{is_identifier, is_word}
 use Rattle.lp_repr.specs.Names.{same_text}
 use Rattle.lp_laws.specs.LineTexts.{Counts}
 use Rattle.lp_laws.specs.TemplateTests.{has_code, is_class, has_class, exact_after, is_step_bracket, ends_next, is_sound_step}
-use Rattle.lp_laws.specs.WellFormed.{is_pattern, HolesFill, IsUseText, StepFits}
+use Rattle.lp_laws.specs.WellFormed.{HolesFill, IsUseText, StepFits}
 use Rattle.lp_laws.proofs.Fronts.{chars_some}
 use Rattle.lp_laws.proofs.Lining.{laid}
 use Rattle.lp_laws.proofs.Bytes.{any_laid, laid_blanks, bytes-first}
 use Rattle.lp_laws.proofs.Sound.{IsPrefix, word_before, line_next}
-use Rattle.lp_laws.proofs.Own.{Ready, ready_same, ready_is, ready_as, EndsTable, Texts, line_counts, own_read}
+use Rattle.lp_laws.proofs.Own.{Ready, ready_same, ready_as, EndsTable, Texts, line_counts, own_read}
 use Rattle.lp_laws.proofs.Steps.{class_own, class_takes, class_after}
 use Rattle.lp_viable.specs.Fillings.{filling}
 use Rattle.lp_viable.specs.Least.{first_needed, needed, least_holes, least_content, trees_over, least_below, plain, own_text, texts_over, steps_text, least_text, is_fit_step, are_fit, is_used_alone, is_least}

@@ -1,5 +1,5 @@
 -- What is taken off a text is taken off each text with something else behind it.
-use Rattle.std.proofs.Common.{◌≡◌, ℕ, ◌+◌, ◌-◌, ◌==◌, ◌||◌, ◌<◌, ◌≤◌, zero, suc, true, false, inl, inr, ◌⊎◌, ⊎_elim, List, [], ◌∷◌, ◌++◌, length, drop, codes, refl, sym, ap, ◌∙◌, subst, arith, eqb, append_assoc, append-nil, length-append}
+use Rattle.std.proofs.Common.{◌≡◌, ℕ, ◌+◌, ◌-◌, ◌==◌, ◌<◌, ◌≤◌, zero, suc, true, false, inl, inr, ◌⊎◌, ⊎_elim, List, [], ◌∷◌, ◌++◌, length, drop, codes, refl, sym, ap, ◌∙◌, subst, arith, eqb, append_assoc, append-nil, length-append}
 use Rattle.std.specs.List.{starts_with}
 use Rattle.std.specs.Str.{IsUtf8, chars, trim_start}
 use Rattle.std.proofs.lemmas.Bool.{cases_Bool, or_cases, or_right, eqb-true}
@@ -12,7 +12,7 @@ use Rattle.lp_spelling.proofs.Reading.{starts_ok}
 use Rattle.lp_local.specs.Agreeing.{first_lines, Agree, lines_before}
 use Rattle.lp_local.specs.Beginning.{BeginsAs}
 use Rattle.lp_local.proofs.Agreeing.{before_rest, agree_front, feed_front, split_first, line_front, line_left, line_behind, line_all, line_rest, line_none}
-use Rattle.lp_local.proofs.Settling.{Left, settled_left, behind_byte, from_byte, before_byte, SettledShared, settled_shared}
+use Rattle.lp_local.proofs.Settling.{Left, settled_left, behind_byte, before_byte, SettledShared, settled_shared}
 use Rattle.lp_local.proofs.Cutting.{stops_told}
 use Rattle.lp_program.specs.CodeReading.{IsUse, IsCode, ends_there}
 use Rattle.lp_program.specs.Reads.{TakesLine, TakesLines}
@@ -72,9 +72,10 @@ within_on (suc m) (b ∷ t) r le = elim (split_first (b ∷ t)) [
         | inr n ↦
             let here : settled (b ∷ t) ≡ trim_start f.line ++ 10 ∷ f.rest = ap settled f.whole ∙ counts_first f.line f.rest f.within n in
             let there : settled ((b ∷ t) ++ 10 ∷ r) ≡ trim_start f.line ++ 10 ∷ (f.rest ++ 10 ∷ r) = ap settled whole ∙ counts_first f.line (f.rest ++ 10 ∷ r) f.within n in
-            let some : length (settled (b ∷ t)) ≡ length (trim_start f.line) + length (10 ∷ f.rest) = ap length here ∙ length-append (trim_start f.line) (10 ∷ f.rest) in
-            (λ more. there ∙ sym (append_assoc (trim_start f.line) (10 ∷ f.rest) (10 ∷ r)) ∙ ap (λ (x : List ℕ). x ++ 10 ∷ r) (sym here),
-            λ e. (let none = ap length e in absurd (omega (arith, some, none))))
+            let some : length (settled (b ∷ t)) ≡ length (trim_start f.line) + length (10 ∷ f.rest) = ap length here ∙ length-append (trim_start f.line) (10 ∷ f.rest) in (
+              λ more. there ∙ sym (append_assoc (trim_start f.line) (10 ∷ f.rest) (10 ∷ r)) ∙ ap (λ (x : List ℕ). x ++ 10 ∷ r) (sym here),
+              λ e. (let none = ap length e in absurd (omega (arith, some, none))),
+            )
       ]
 ]
 
@@ -355,15 +356,15 @@ use_moved w used rest q u c =
     let w_is : w ≡ l.front ++ y = append_cancel_right w (l.front ++ y) rest whole in
     let there : settled (w ++ 10 ∷ q) ≡ y ++ 10 ∷ q = ⊎_elim
     (λ none. (
-      let nothing : rest ≡ [] = Rattle.std.proofs.lemmas.List.nil_from_length rest (eqb-true (length rest) 0 none) in
-      let w_settles : settled w ≡ y = ap settled (sym (append-nil w) ∙ ap (λ (x : List ℕ). w ++ x) (sym nothing)) ∙ here ∙ ap (λ (x : List ℕ). y ++ x) nothing ∙ append-nil y in
-      settled_on w q (subst (λ (x : List ℕ). 0 < length x) (sym w_settles) (omega arith)) ∙ ap (λ (x : List ℕ). x ++ 10 ∷ q) w_settles))
+    let nothing : rest ≡ [] = Rattle.std.proofs.lemmas.List.nil_from_length rest (eqb-true (length rest) 0 none) in
+    let w_settles : settled w ≡ y = ap settled (sym (append-nil w) ∙ ap (λ (x : List ℕ). w ++ x) (sym nothing)) ∙ here ∙ ap (λ (x : List ℕ). y ++ x) nothing ∙ append-nil y in
+    settled_on w q (subst (λ (x : List ℕ). 0 < length x) (sym w_settles) (omega arith)) ∙ ap (λ (x : List ℕ). x ++ 10 ∷ q) w_settles))
     (λ feed. (
-      let r : List ℕ = drop 1 rest in
-      let rest_is : rest ≡ 10 ∷ r = starts_ok (codes "\n") rest feed in
-      let text_is : text ≡ l.front ++ (y ++ 10 ∷ r) = whole ∙ append_assoc l.front y rest ∙ ap (λ (x : List ℕ). l.front ++ (y ++ x)) rest_is in
-      ap settled (ap (λ (x : List ℕ). x ++ 10 ∷ q) w_is ∙ append_assoc l.front y (10 ∷ q))
-      ∙ several_again l.front y r q (subst (λ (x : List ℕ). IsUtf8 x) text_is u) (ap settled (sym text_is) ∙ here ∙ ap (λ (x : List ℕ). y ++ x) rest_is)))
+    let r : List ℕ = drop 1 rest in
+    let rest_is : rest ≡ 10 ∷ r = starts_ok (codes "\n") rest feed in
+    let text_is : text ≡ l.front ++ (y ++ 10 ∷ r) = whole ∙ append_assoc l.front y rest ∙ ap (λ (x : List ℕ). l.front ++ (y ++ x)) rest_is in
+    ap settled (ap (λ (x : List ℕ). x ++ 10 ∷ q) w_is ∙ append_assoc l.front y (10 ∷ q))
+    ∙ several_again l.front y r q (subst (λ (x : List ℕ). IsUtf8 x) text_is u) (ap settled (sym text_is) ∙ here ∙ ap (λ (x : List ℕ). y ++ x) rest_is)))
     (or_cases (length rest == 0) (starts_with eqb rest (codes "\n")) c.ends) in
     let v : IsUtf8 ((codes "use " ++ used) ++ 59 ∷ rest) = subst (λ (x : List ℕ). IsUtf8 x) (c.front ∙ sym (append_assoc (codes "use ") used (codes ";" ++ rest))) l.utf8 in
     let used_utf8 : IsUtf8 used = behind_byte (codes "use") 32 used (omega arith) (before_byte (codes "use " ++ used) 59 rest (omega arith) v) in

@@ -1,20 +1,20 @@
 -- The entries of a table are the same, whatever stands behind the `]` that ends it.
-use Rattle.std.proofs.Common.{◌≡◌, ℕ, ℤ, ◌+◌, ◌-◌, ◌==◌, ◌<◌, ◌≤◌, zero, suc, Bool, true, false, cond, inl, inr, List, [], ◌∷◌, ◌++◌, length, take, drop, codes, Option, Some, None, refl, sym, ap, ◌∙◌, subst, arith, eqb, ltb, append_assoc, length-append, length-drop}
+use Rattle.std.proofs.Common.{◌≡◌, ℕ, ℤ, ◌+◌, ◌==◌, ◌<◌, ◌≤◌, zero, suc, Bool, true, false, cond, inl, inr, List, [], ◌∷◌, ◌++◌, length, take, drop, codes, Option, Some, None, refl, sym, ap, ◌∙◌, subst, arith, eqb, ltb, append_assoc, length-append, length-drop}
 use Rattle.std.specs.List.{starts_with, prefix_len}
 use Rattle.std.specs.Char.{encode_utf8}
-use Rattle.std.specs.Str.{IsUtf8, IsCharBoundary, chars, encode_utf8_all}
+use Rattle.std.specs.Str.{IsUtf8, chars, encode_utf8_all}
 use Rattle.std.proofs.lemmas.Bool.{cases_Bool, cond-true, cond-false, cond_both}
 use Rattle.std.proofs.lemmas.List.{take-append-le, drop-append-le}
 use Rattle.std.proofs.lemmas.List.Sums.{prefix_len-le-length}
 use Rattle.std.proofs.lemmas.Str.{encodes-chars, chars-append, IsUtf8-append}
-use Rattle.lp_spelling.specs.Counting.{is_text, line_len, feeds}
+use Rattle.lp_spelling.specs.Counting.{line_len}
 use Rattle.lp_spelling.specs.HoleEnds.{is_digit}
 use Rattle.lp_spelling.specs.LineReading.{◌>>=◌, after}
 use Rattle.lp_spelling.specs.TableReading.{number_of, sign_len, number_end, entry_in, blank_of, blank_len, Front, entry_front, front_after_blank, front_of, Table, with_number, goes_on_after, entries_within, entries}
 use Rattle.lp_spelling.specs.TableReading.Front.{feed, skip, ends, found_entry, wrong}
 use Rattle.lp_spelling.proofs.Tables.{char_cut}
 use Rattle.lp_local.proofs.Agreeing.{split_first, line_left, line_over}
-use Rattle.lp_local.proofs.Settling.{behind_byte, from_byte, before_byte}
+use Rattle.lp_local.proofs.Settling.{from_byte, before_byte}
 use Rattle.lp_local.proofs.Tables.{StepLeft, GoesTo, front_left, more_behind}
 use Rattle.lp_laws.proofs.Entries as laws
 

@@ -1,5 +1,5 @@
 -- Where a part is completed that begins behind some trees of a step, the step is completed.
-use Rattle.std.proofs.Common.{◌≡◌, ℕ, ◌==◌, Bool, true, false, ◌&&◌, List, [], ◌∷◌, ◌++◌, length, refl, sym, ap, ◌∙◌, subst, append_assoc}
+use Rattle.std.proofs.Common.{◌≡◌, ℕ, ◌==◌, true, false, ◌&&◌, List, [], ◌∷◌, ◌++◌, length, refl, sym, ap, ◌∙◌, subst, append_assoc}
 use Rattle.std.specs.List.{list_all}
 use Rattle.std.specs.Str.{IsUtf8}
 use Rattle.std.proofs.lemmas.Bool.{and_parts, or_left, or_right, both_ways}
@@ -93,8 +93,8 @@ tree_done prefix u h s f p text mid single goes v e r d =
       again = λ q closing.
           (let x : List ℕ = d.more ++ (a.more ++ q) in
           let first = d.again (a.more ++ q) (λ code.
-              (let takes_it : takes s part.UserBody ≡ true = ap (takes s) (sym (code_part p code)) ∙ goes_takes s (parts_in f) p goes in
-              a.closing q (single takes_it) (closing takes_it))) in
+          (let takes_it : takes s part.UserBody ≡ true = ap (takes s) (sym (code_part p code)) ∙ goes_takes s (parts_in f) p goes in
+          a.closing q (single takes_it) (closing takes_it))) in
           let next = a.again first.rest q first.same in
           let there : text ++ x ≡ text ++ ((d.more ++ a.more) ++ q) = ap (λ (y : List ℕ). text ++ y) (sym (append_assoc d.more a.more q)) in
           record {

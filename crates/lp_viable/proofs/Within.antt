@@ -1,5 +1,5 @@
 -- Where a text stops within what a step itself takes, that can be completed.
-use Rattle.std.proofs.Common.{◌≡◌, ℕ, zero, suc, false, true, List, [], ◌∷◌, ◌++◌, drop, codes, Some, refl, sym, ap, ◌∙◌, subst, append_assoc}
+use Rattle.std.proofs.Common.{◌≡◌, ℕ, false, true, List, [], ◌∷◌, ◌++◌, drop, codes, Some, refl, sym, ap, ◌∙◌, subst, append_assoc}
 use Rattle.std.specs.Str.{IsUtf8}
 use Rattle.std.proofs.lemmas.List.{append_cancel_right}
 use Rattle.std.proofs.lemmas.Str.{IsUtf8-append}

@@ -1,5 +1,5 @@
 -- For each kind of hole a text that may stand in it, whatever the prefix.
-use Rattle.std.specs.Prelude.{ℕ, ◌==◌, if◌then◌else◌, List, [], ◌∷◌, ◌++◌, get_or, codes}
+use Rattle.std.specs.Prelude.{ℕ, ◌==◌, if◌then◌else◌, List, [], ◌++◌, get_or, codes}
 use Rattle.lp_form.specs.declared.template.Kind.{Kind}
 use Rattle.lp_form.specs.declared.template.Kind.TheVariants as kind
 

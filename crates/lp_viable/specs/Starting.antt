@@ -10,7 +10,7 @@ use Rattle.lp_form.specs.declared.template.Step.{Step}
 use Rattle.lp_form.specs.declared.template.Step.TheVariants as step
 use Rattle.lp_spelling.specs.Counting.{settled}
 use Rattle.lp_program.specs.Printed.{is_member}
-use Rattle.lp_program.specs.Reads.{is_prefix, parts_in, may_have, Reads}
+use Rattle.lp_program.specs.Reads.{parts_in, may_have, Reads}
 use Rattle.lp_program.specs.Reads.Task.{trees}
 use Rattle.lp_program.specs.Telling.{Told, untold, TellsOwn}
 use Rattle.lp_program.specs.Trees.{Forest, tree_count}
