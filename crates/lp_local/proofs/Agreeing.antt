@@ -102,7 +102,7 @@ shared_front n x a b lt h =
     record { rest = z ++ p.0; b_is = e; agree = agree_behind n x a (z ++ p.0) lt (subst (λ (r : List ℕ). Agree n (x ++ a) r) e h) }
 
 -- nothing agrees with nothing else
-agree_nothing : (n : ℕ) (b : List ℕ) → 0 < n → Agree n [] b → b ≡ []
+pub agree_nothing : (n : ℕ) (b : List ℕ) → 0 < n → Agree n [] b → b ≡ []
 unfolding first_lines
 agree_nothing n [] lt h = refl
 agree_nothing zero (c ∷ b) lt h = absurd (omega arith)

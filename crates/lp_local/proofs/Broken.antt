@@ -71,7 +71,7 @@ fronts_alike n a b u h = elim (line_shared n a b h) [
 ]
 
 -- where a table is broken is left of the text
-step_to : (text : List ℕ) (f : Front) → IsUtf8 text → front_of text ≡ f → GoesTo text f
+pub step_to : (text : List ℕ) (f : Front) → IsUtf8 text → front_of text ≡ f → GoesTo text f
 step_to text f u e = subst (λ (x : Front). GoesTo text x) e (front_left text u)
 
 pub broken_left : (at_front : Bool) (text rest : List ℕ) → IsUtf8 text → IsBroken at_front text rest → Left text rest

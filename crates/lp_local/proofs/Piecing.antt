@@ -203,19 +203,19 @@ slash_told start k (d ∷ m) next h = elim (cases_Bool (d == slash)) [
 ]
 
 -- what a piece is, by its first character
-string_first : (c : ℕ) (r : List ℕ) → (c == quote) ≡ true → code_piece (c ∷ r) ≡ ended UnterminatedStringLiteral (c ∷ r) (string_end quote r)
+pub string_first : (c : ℕ) (r : List ℕ) → (c == quote) ≡ true → code_piece (c ∷ r) ≡ ended UnterminatedStringLiteral (c ∷ r) (string_end quote r)
 string_first c r q = cond-true (c == quote) _ _ q
 
-quoted_first : (c : ℕ) (r : List ℕ) → (c == quote) ≡ false → (c == apostrophe) ≡ true → code_piece (c ∷ r) ≡ quoted_piece (c ∷ r) (after_quoted r)
+pub quoted_first : (c : ℕ) (r : List ℕ) → (c == quote) ≡ false → (c == apostrophe) ≡ true → code_piece (c ∷ r) ≡ quoted_piece (c ∷ r) (after_quoted r)
 quoted_first c r q a = cond-false (c == quote) _ _ q ∙ cond-true (c == apostrophe) _ _ a
 
-raw_first : (c : ℕ) (r : List ℕ) → (c == quote) ≡ false → (c == apostrophe) ≡ false → (c == letter_r) ≡ true → code_piece (c ∷ r) ≡ raw_piece r
+pub raw_first : (c : ℕ) (r : List ℕ) → (c == quote) ≡ false → (c == apostrophe) ≡ false → (c == letter_r) ≡ true → code_piece (c ∷ r) ≡ raw_piece r
 raw_first c r q a l = cond-false (c == quote) _ _ q ∙ cond-false (c == apostrophe) _ _ a ∙ cond-true (c == letter_r) _ _ l
 
-slash_first : (c : ℕ) (r : List ℕ) → (c == quote) ≡ false → (c == apostrophe) ≡ false → (c == letter_r) ≡ false → (c == slash) ≡ true → code_piece (c ∷ r) ≡ slash_piece (c ∷ r) r
+pub slash_first : (c : ℕ) (r : List ℕ) → (c == quote) ≡ false → (c == apostrophe) ≡ false → (c == letter_r) ≡ false → (c == slash) ≡ true → code_piece (c ∷ r) ≡ slash_piece (c ∷ r) r
 slash_first c r q a l s = cond-false (c == quote) _ _ q ∙ cond-false (c == apostrophe) _ _ a ∙ cond-false (c == letter_r) _ _ l ∙ cond-true (c == slash) _ _ s
 
-single_first : (c : ℕ) (r : List ℕ) → (c == quote) ≡ false → (c == apostrophe) ≡ false → (c == letter_r) ≡ false → (c == slash) ≡ false → code_piece (c ∷ r) ≡ Whole (kind_of c) r
+pub single_first : (c : ℕ) (r : List ℕ) → (c == quote) ≡ false → (c == apostrophe) ≡ false → (c == letter_r) ≡ false → (c == slash) ≡ false → code_piece (c ∷ r) ≡ Whole (kind_of c) r
 single_first c r q a l s = cond-false (c == quote) _ _ q ∙ cond-false (c == apostrophe) _ _ a ∙ cond-false (c == letter_r) _ _ l ∙ cond-false (c == slash) _ _ s
 
 -- a character in front of a piece

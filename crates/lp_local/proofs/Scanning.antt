@@ -80,14 +80,14 @@ quote_here : (q c : ℕ) (m : List ℕ) → eqb c q ≡ true → from_unescaped 
 quote_here q c [] h = cond-true (eqb c q) _ _ h
 quote_here q c (d ∷ m) h = cond-true (eqb c q) _ _ h
 
-quote_ends : (q c : ℕ) (m : List ℕ) → eqb c q ≡ true → string_end q (c ∷ m) ≡ Some m
+pub quote_ends : (q c : ℕ) (m : List ℕ) → eqb c q ≡ true → string_end q (c ∷ m) ≡ Some m
 quote_ends q c m h = ap (past q) (quote_here q c m h) ∙ cond-true (eqb c q) _ _ h
 
-string_goes : (q c : ℕ) (m : List ℕ) → eqb c q ≡ false → eqb c backslash ≡ false → from_unescaped q (c ∷ m) ≡ from_unescaped q m
+pub string_goes : (q c : ℕ) (m : List ℕ) → eqb c q ≡ false → eqb c backslash ≡ false → from_unescaped q (c ∷ m) ≡ from_unescaped q m
 string_goes q c [] n s = cond-false (eqb c q) _ _ n
 string_goes q c (d ∷ m) n s = cond-false (eqb c q) _ _ n ∙ cond-false (eqb c backslash) _ _ s
 
-string_escapes : (q c d : ℕ) (m : List ℕ) → eqb c q ≡ false → eqb c backslash ≡ true → from_unescaped q (c ∷ d ∷ m) ≡ from_unescaped q m
+pub string_escapes : (q c d : ℕ) (m : List ℕ) → eqb c q ≡ false → eqb c backslash ≡ true → from_unescaped q (c ∷ d ∷ m) ≡ from_unescaped q m
 string_escapes q c d m n s = cond-false (eqb c q) _ _ n ∙ cond-true (eqb c backslash) _ _ s
 
 string_here : (q c : ℕ) (m next : List ℕ) → eqb c q ≡ true → string_end q (c ∷ m) ≡ Some next → Finds (string_end q) (c ∷ m) next
@@ -128,22 +128,22 @@ string_finds q (c ∷ d ∷ cs) next h = elim (cases_Bool (eqb c q)) [
 ]
 
 -- block comments
-comment_goes : (n c d f : ℕ) (m : List ℕ) → d ≡ f → ((c == slash) && (d == star)) ≡ false → ((c == star) && (d == slash)) ≡ false → after_comment n (c ∷ f ∷ m) ≡ after_comment n (f ∷ m)
+pub comment_goes : (n c d f : ℕ) (m : List ℕ) → d ≡ f → ((c == slash) && (d == star)) ≡ false → ((c == star) && (d == slash)) ≡ false → after_comment n (c ∷ f ∷ m) ≡ after_comment n (f ∷ m)
 comment_goes n c d f m e o s =
     cond-false ((c == slash) && (f == star)) _ _ (ap (λ x. (c == slash) && (x == star)) (sym e) ∙ o)
     ∙ cond-false ((c == star) && (f == slash)) _ _ (ap (λ x. (c == star) && (x == slash)) (sym e) ∙ s)
 
-comment_opens : (n c d : ℕ) (m : List ℕ) → ((c == slash) && (d == star)) ≡ true → after_comment n (c ∷ d ∷ m) ≡ after_comment (n + 1) m
+pub comment_opens : (n c d : ℕ) (m : List ℕ) → ((c == slash) && (d == star)) ≡ true → after_comment n (c ∷ d ∷ m) ≡ after_comment (n + 1) m
 comment_opens n c d m o = cond-true ((c == slash) && (d == star)) _ _ o
 
 comment_closes : (n c d : ℕ) (m : List ℕ) → ((c == slash) && (d == star)) ≡ false → ((c == star) && (d == slash)) ≡ true →
     after_comment n (c ∷ d ∷ m) ≡ cond (n == 0) (Some m) (after_comment (n - 1) m)
 comment_closes n c d m o e = cond-false ((c == slash) && (d == star)) _ _ o ∙ cond-true ((c == star) && (d == slash)) _ _ e
 
-comment_ends : (n c d : ℕ) (m : List ℕ) → ((c == slash) && (d == star)) ≡ false → ((c == star) && (d == slash)) ≡ true → (n == 0) ≡ true → after_comment n (c ∷ d ∷ m) ≡ Some m
+pub comment_ends : (n c d : ℕ) (m : List ℕ) → ((c == slash) && (d == star)) ≡ false → ((c == star) && (d == slash)) ≡ true → (n == 0) ≡ true → after_comment n (c ∷ d ∷ m) ≡ Some m
 comment_ends n c d m o e z = comment_closes n c d m o e ∙ cond-true (n == 0) (Some m) (after_comment (n - 1) m) z
 
-comment_shuts : (n c d : ℕ) (m : List ℕ) → ((c == slash) && (d == star)) ≡ false → ((c == star) && (d == slash)) ≡ true → (n == 0) ≡ false → after_comment n (c ∷ d ∷ m) ≡ after_comment (n - 1) m
+pub comment_shuts : (n c d : ℕ) (m : List ℕ) → ((c == slash) && (d == star)) ≡ false → ((c == star) && (d == slash)) ≡ true → (n == 0) ≡ false → after_comment n (c ∷ d ∷ m) ≡ after_comment (n - 1) m
 comment_shuts n c d m o e z = comment_closes n c d m o e ∙ cond-false (n == 0) (Some m) (after_comment (n - 1) m) z
 
 -- a comment that goes on behind two characters
@@ -189,7 +189,7 @@ pub record Leaves (scan : List ℕ → List ℕ) (cs : List ℕ) (a : ℕ) (x : 
   pub whole : cs ≡ front ++ a ∷ x
   pub again : (y : List ℕ) → scan (front ++ a ∷ y) ≡ a ∷ y
 
-abbrev escaped_end : List ℕ → List ℕ
+abbrev pub escaped_end : List ℕ → List ℕ
 escaped_end cs = past_any (from_char apostrophe (past_any cs))
 
 escaped_at : (d : ℕ) (m : List ℕ) (a : ℕ) (x r : List ℕ) → from_char apostrophe m ≡ r → past_any r ≡ a ∷ x → Leaves escaped_end (d ∷ m) a x

@@ -71,21 +71,21 @@ trimmed x u = subst (λ (y : List ℕ). Left y (encode_utf8_all (skip_leading_wh
 first_some : (line r : List ℕ) → 0 < length (line ++ 10 ∷ r)
 first_some line r = let e = length-append line (10 ∷ r) in omega (arith, e)
 
-skips_first : (line r : List ℕ) → feeds line ≡ 0 → is_skipped (trim_start line) ≡ true → settled (line ++ 10 ∷ r) ≡ settled r
+pub skips_first : (line r : List ℕ) → feeds line ≡ 0 → is_skipped (trim_start line) ≡ true → settled (line ++ 10 ∷ r) ≡ settled r
 skips_first line r none y =
     settled_skips (line ++ 10 ∷ r) (first_some line r) (ap (λ (x : List ℕ). is_skipped (trim_start x)) (line_front line r none) ∙ y) ∙ ap settled (line_behind line r none)
 
-counts_first : (line r : List ℕ) → feeds line ≡ 0 → is_skipped (trim_start line) ≡ false → settled (line ++ 10 ∷ r) ≡ trim_start line ++ 10 ∷ r
+pub counts_first : (line r : List ℕ) → feeds line ≡ 0 → is_skipped (trim_start line) ≡ false → settled (line ++ 10 ∷ r) ≡ trim_start line ++ 10 ∷ r
 counts_first line r none n =
     settled_counts (line ++ 10 ∷ r) (first_some line r) (ap (λ (x : List ℕ). is_skipped (trim_start x)) (line_front line r none) ∙ n)
     ∙ ap (λ (x : List ℕ). trim_start x ++ drop (line_len (line ++ 10 ∷ r)) (line ++ 10 ∷ r)) (line_front line r none)
     ∙ ap (λ (x : List ℕ). trim_start line ++ x) (line_left line r none)
 
-skips_last : (t : List ℕ) → 0 < length t → feeds t ≡ 0 → is_skipped (trim_start t) ≡ true → settled t ≡ []
+pub skips_last : (t : List ℕ) → 0 < length t → feeds t ≡ 0 → is_skipped (trim_start t) ≡ true → settled t ≡ []
 skips_last t some none y =
     settled_skips t some (ap (λ (x : List ℕ). is_skipped (trim_start x)) (line_all t none) ∙ y) ∙ ap settled (line_none t none) ∙ settled_none
 
-counts_last : (t : List ℕ) → 0 < length t → feeds t ≡ 0 → is_skipped (trim_start t) ≡ false → settled t ≡ trim_start t
+pub counts_last : (t : List ℕ) → 0 < length t → feeds t ≡ 0 → is_skipped (trim_start t) ≡ false → settled t ≡ trim_start t
 counts_last t some none n =
     settled_counts t some (ap (λ (x : List ℕ). is_skipped (trim_start x)) (line_all t none) ∙ n) ∙ ap (λ (x : List ℕ). trim_start x ++ drop (line_len t) t) (line_all t none)
     ∙ ap (λ (x : List ℕ). trim_start t ++ x) (line_rest t none) ∙ append-nil (trim_start t)

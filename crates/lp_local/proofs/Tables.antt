@@ -271,7 +271,7 @@ abbrev ReadsAlike : ℕ → Type 0
 ReadsAlike m = (n : ℕ) (g : Bool) (x y : List ℕ) (t : Table) → IsUtf8 x → entries_within m g x ≡ Some t → lines_before x t.1 < n → Agree n x y → Reads (n - lines_before x t.1) g y t
 
 -- one step, and the others
-step_reads : (k : ℕ) (g : Bool) (text : List ℕ) (o : Option Table) → 0 < length text → ((i : ℕ) → length text ≤ suc i → goes_on_after (entries_within i) g text (front_of text) ≡ o) → length text ≤ k →
+pub step_reads : (k : ℕ) (g : Bool) (text : List ℕ) (o : Option Table) → 0 < length text → ((i : ℕ) → length text ≤ suc i → goes_on_after (entries_within i) g text (front_of text) ≡ o) → length text ≤ k →
     entries_within k g text ≡ o
 unfolding entries_within
 step_reads zero g text o some f le = absurd (omega arith)
@@ -308,7 +308,7 @@ reads_rest m n g line r p q t alike s v none h lt agree =
     let same : suc n - lines_before (r ++ 10 ∷ p) t.1 ≡ suc n - lines_before (line ++ 10 ∷ p) t.1 = omega (arith, one, two, three, none) in
     subst (λ i. Reads i g (r ++ 10 ∷ q) t) same x
 
-rest_shorter : (line r q : List ℕ) (k : ℕ) → StepLeft line r → length (line ++ 10 ∷ q) ≤ suc k → length (r ++ 10 ∷ q) ≤ k
+pub rest_shorter : (line r q : List ℕ) (k : ℕ) → StepLeft line r → length (line ++ 10 ∷ q) ≤ suc k → length (r ++ 10 ∷ q) ≤ k
 rest_shorter line r q k s le =
     let one = ap length s.whole ∙ length-append s.front r in
     let two = length-append line (10 ∷ q) in
