@@ -5,7 +5,7 @@ use Rattle.lp_program.specs.declared.read.reader.Reader.{Reader}
 use Rattle.lp_program.specs.Adding.{Holds, SamePlace}
 use Rattle.lp_program.specs.Answering.{AddsRead, NoneRead, AnswersTrees}
 use Rattle.lp_program.specs.Choosing.{Reading, Followed, IsUnread}
-use Rattle.lp_program.specs.Nearby.{OfLike, Moves, OfTaken}
+use Rattle.lp_program.specs.Nearby.{OfLike, OfTaken}
 use Rattle.lp_program.specs.Reads.{graft}
 use Rattle.lp_program.specs.Trees.{Forest}
 use Rattle.lp_program.specs.Trees.Forest.{bare}

@@ -267,7 +267,7 @@ quiet_of depth prefix p line from now next items i d seen later known new a e lt
     )
 
 -- a line is told by the line in front alone
-line_first : (prefix : List ℕ) (kinds : List Kind) (pieces : List Piece) (known new : List (List ℕ)) (b : Bool) → OfFirst (AnswersLine prefix kinds pieces known new b)
+pub line_first : (prefix : List ℕ) (kinds : List Kind) (pieces : List Piece) (known new : List (List ℕ)) (b : Bool) → OfFirst (AnswersLine prefix kinds pieces known new b)
 line_first prefix kinds pieces known new b l lines others h = h
 
 -- a line that is there, or isn't

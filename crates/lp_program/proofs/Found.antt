@@ -1,5 +1,5 @@
 -- What a reader finds: one part of a class, some of them, and the body of an action.
-use Rattle.std.proofs.Common.{◌≡◌, ℕ, zero, suc, ◌+◌, ◌<◌, ◌≤◌, Bool, true, false, inl, inr, List, [], ◌++◌, length, Some, None, codes, refl, sym, ap, ◌∙◌, arith, subst}
+use Rattle.std.proofs.Common.{◌≡◌, ℕ, zero, suc, ◌<◌, ◌≤◌, Bool, true, false, inl, inr, List, [], ◌++◌, length, Some, None, codes, refl, sym, ap, ◌∙◌, arith, subst}
 use Rattle.std.specs.Bool.{Decides}
 use Rattle.std.specs.Str.{IsUtf8}
 use Rattle.std.proofs.lemmas.Bool.{false≢true}

@@ -39,17 +39,17 @@ use Rattle.lp_program.proofs.Taking.{part_there}
 
 -- nothing is taken off
 pub moves_none : (n : ℕ) (c : Cursor) (text : List ℕ) → Like n c text → Moves n c c text text
-moves_none n c text like = record { like = like; size = refl }
+moves_none n c text like = record { like = like; taken = refl; size = refl }
 
 pub moves_same : (n : ℕ) (a b : Cursor) (text : List ℕ) → b ≡ a → Like n a text → Moves n a b text text
 moves_same n a b text e like = subst (λ (k : Cursor). Moves n a k text text) (sym e) (moves_none n a text like)
 
 -- one thing behind another
 pub moves_then : (n : ℕ) (a b c : Cursor) (x y z : List ℕ) → Moves n a b x y → Moves n b c y z → Moves n a c x z
-moves_then n a b c x y z f g = record { like = g.like; size = omega (arith, f.size, g.size) }
+moves_then n a b c x y z f g = record { like = g.like; taken = g.taken ∙ f.taken; size = omega (arith, f.size, g.size) }
 
 -- a text that is its own rest has no front
-no_front : (text : List ℕ) (n : ℕ) → drop n text ≡ text → take n text ≡ []
+pub no_front : (text : List ℕ) (n : ℕ) → drop n text ≡ text → take n text ≡ []
 no_front text n e =
     let whole = ap length (take-append-drop n text) in
     let parts = length-append (take n text) (drop n text) in
@@ -83,7 +83,7 @@ front_of c = take c.raw c.text.now
 front_whole : (c : Cursor) → front_of c ++ left c ≡ c.text.now
 front_whole c = take-append-drop c.raw c.text.now
 
-left_utf8 : (c : Cursor) → IsUtf8 c.text.now → IsUtf8 (left c)
+pub left_utf8 : (c : Cursor) → IsUtf8 c.text.now → IsUtf8 (left c)
 left_utf8 c u = IsUtf8-drop c.text.now c.raw u c.raw_in
 
 -- the lines of what is left
@@ -91,7 +91,7 @@ like_left : (n : ℕ) (c : Cursor) (text : List ℕ) → feeds (front_of c) < n 
 like_left n c text lt like = agree_behind n (front_of c) (left c) text lt (ap (first_lines n) (front_whole c) ∙ sym like.same)
 
 -- the same front is taken off
-front_next : (c next : Cursor) (x : List ℕ) → IsTaken c next → left c ≡ x ++ left next → front_of next ≡ front_of c ++ x
+pub front_next : (c next : Cursor) (x : List ℕ) → IsTaken c next → left c ≡ x ++ left next → front_of next ≡ front_of c ++ x
 front_next c next x same e =
     append_cancel_right (front_of next) (front_of c ++ x) (left next)
     (front_whole next ∙ same ∙ sym (front_whole c) ∙ ap (λ (y : List ℕ). front_of c ++ y) e ∙ sym (append_assoc (front_of c) x (left next)))
@@ -107,6 +107,7 @@ moves_front n c next x text rest same e f u like = record {
         ap (λ (y : List ℕ). first_lines n (y ++ rest)) (front_next c next x same e) ∙ ap (first_lines n) (append_assoc (front_of c) x rest) ∙ ap (λ (y : List ℕ). first_lines n (front_of c ++ y)) (sym f)
         ∙ like.same ∙ ap (first_lines n) (sym same);
   };
+  taken = same;
   size = (let a = ap length e ∙ length-append x (left next) in let b = ap length f ∙ length-append x rest in omega (arith, a, b));
 }
 
@@ -116,13 +117,13 @@ moves_all n c next text rest same e f l like =
     moves_front n c next l.front text rest same l.whole (e ∙ l.whole ∙ ap (λ (y : List ℕ). l.front ++ y) (sym f)) (subst IsUtf8 (sym f) l.utf8) like
 
 -- the number of a line is that of those before it, and one
-number_at_line : (place : ℕ) (text : List ℕ) → feeds text + 1 < 2 ^ 64 → place < length text → number_at place text ≡ feeds (take place text) + 1
+pub number_at_line : (place : ℕ) (text : List ℕ) → feeds text + 1 < 2 ^ 64 → place < length text → number_at place text ≡ feeds (take place text) + 1
 number_at_line place text count lt =
     let all = ap feeds (take-append-drop place text) in
     let both = feeds-append (take place text) (drop place text) in
     cond-true (ltb place (length text)) (line_number (feeds (take place text))) (past_last text) (lt-ltb place (length text) lt) ∙ omega (arith, all, both, count)
 
-number_at_end : (place : ℕ) (text : List ℕ) → length text ≤ place → number_at place text ≡ past_last text
+pub number_at_end : (place : ℕ) (text : List ℕ) → length text ≤ place → number_at place text ≡ past_last text
 number_at_end place text le = cond-false (ltb place (length text)) (line_number (feeds (take place text))) (past_last text) (le-ltb place (length text) le)
 
 -- the line of the next text that counts was looked at
@@ -160,7 +161,7 @@ like_all n c text le like =
 abbrev pub SameNext : List ℕ → List ℕ → Type 0
 SameNext text other = ((settled text ≡ []) × (other ≡ text)) ⊎ ((0 < length (settled text)) × (0 < length (settled other)) × (front_line (settled other) ≡ front_line (settled text)))
 
-next_shared : (n : ℕ) (c : Cursor) (text : List ℕ) → next_number c ≤ n → 0 < length (settled (left c)) → Like n c text → SettledShared (n - feeds (front_of c)) (left c) text
+pub next_shared : (n : ℕ) (c : Cursor) (text : List ℕ) → next_number c ≤ n → 0 < length (settled (left c)) → Like n c text → SettledShared (n - feeds (front_of c)) (left c) text
 next_shared n c text le some like =
     let lt = next_before n c like.whole like.counted some le in
     settled_shared (n - feeds (front_of c)) (left c) text (left_utf8 c like.whole) some (omega (arith, lt)) (like_left n c text (omega (arith, lt)) like)
@@ -181,7 +182,7 @@ behind_left t u =
       whole = l.whole ∙ ap (λ (y : List ℕ). l.front ++ y) (sym (take-append-drop (line_len (settled t) + 1) (settled t))) ∙ sym (append_assoc l.front (take (line_len (settled t) + 1) (settled t)) (behind_line (settled t)));
     }
 
-no_lines : (t : List ℕ) → first_lines 0 t ≡ []
+pub no_lines : (t : List ℕ) → first_lines 0 t ≡ []
 unfolding first_lines
 no_lines [] = refl
 no_lines (b ∷ t) = refl
@@ -259,7 +260,7 @@ number_grows c next u same rest =
     subst (λ (t : List ℕ). next_number c ≤ number_at next.start t) (sym same) (number_mono w c.start next.start (omega (arith, first, later, text, short, behind, in_first, in_later)))
 
 -- what stands in front of a place where the next line that counts was looked at ends on a line that was looked at
-place_before : (n : ℕ) (c : Cursor) → IsUtf8 c.text.now → feeds c.text.now + 1 < 2 ^ 64 → next_number c ≤ n → feeds (front_of c) < n
+pub place_before : (n : ℕ) (c : Cursor) → IsUtf8 c.text.now → feeds c.text.now + 1 < 2 ^ 64 → next_number c ≤ n → feeds (front_of c) < n
 place_before n c u count le = elim (cases_lt 0 (length (settled (left c)))) [
   | inl some ↦ (let lt = next_before n c u count some le in omega (arith, lt))
   | inr none ↦
@@ -324,25 +325,30 @@ no_line_like n c text prefix kinds pieces old none le like x rest t = elim (next
 ]
 
 -- what is taken off ends on a line that was looked at
-taken_before : (n : ℕ) (c next : Cursor) → IsTaken c next → IsUtf8 c.text.now → feeds c.text.now + 1 < 2 ^ 64 → next_number next ≤ n → (x : List ℕ) → left c ≡ x ++ left next → (feeds (front_of c) + feeds x < n) × (feeds (left c) ≡ feeds x + feeds (left next))
-taken_before n c next same u count far x e =
-    let place = place_before n next (subst IsUtf8 (sym same) u) (omega (arith, ap feeds same, count)) far in
+taken_at : (n : ℕ) (c next : Cursor) → IsTaken c next → feeds (front_of next) < n → (x : List ℕ) → left c ≡ x ++ left next → (feeds (front_of c) + feeds x < n) × (feeds (left c) ≡ feeds x + feeds (left next))
+taken_at n c next same place x e =
     let front = ap feeds (front_next c next x same e) ∙ feeds-append (front_of c) x in
     (omega (arith, place, front), ap feeds e ∙ feeds-append x (left next))
 
+next_place : (n : ℕ) (c next : Cursor) → IsTaken c next → IsUtf8 c.text.now → feeds c.text.now + 1 < 2 ^ 64 → next_number next ≤ n → feeds (front_of next) < n
+next_place n c next same u count far = place_before n next (subst IsUtf8 (sym same) u) (omega (arith, ap feeds same, count)) far
+
+taken_before : (n : ℕ) (c next : Cursor) → IsTaken c next → IsUtf8 c.text.now → feeds c.text.now + 1 < 2 ^ 64 → next_number next ≤ n → (x : List ℕ) → left c ≡ x ++ left next → (feeds (front_of c) + feeds x < n) × (feeds (left c) ≡ feeds x + feeds (left next))
+taken_before n c next same u count far x e = taken_at n c next same (next_place n c next same u count far) x e
+
 -- a use that is there
-use_whole : (used rest : List ℕ) → codes "use " ++ (used ++ (codes ";" ++ rest)) ≡ (codes "use " ++ (used ++ codes ";")) ++ rest
+pub use_whole : (used rest : List ℕ) → codes "use " ++ (used ++ (codes ";" ++ rest)) ≡ (codes "use " ++ (used ++ codes ";")) ++ rest
 use_whole used rest = ap (λ (x : List ℕ). codes "use " ++ x) (sym (append_assoc used (codes ";") rest))
 
-pub use_like : (n : ℕ) (c next : Cursor) (text used : List ℕ) → IsTaken c next → IsUse (left c) used (left next) → next_number c ≤ n → next_number next ≤ n → Like n c text →
+pub use_near : (n : ℕ) (c next : Cursor) (text used : List ℕ) → IsTaken c next → IsUse (left c) used (left next) → next_number c ≤ n → feeds (front_of next) < n → Like n c text →
     (rest : List ℕ) × IsUse text used rest × Moves n c next text rest
-use_like n c next text used same is le far like =
+use_near n c next text used same is le far like =
     let x : List ℕ = codes "use " ++ (used ++ codes ";") in
     let whole : settled (left c) ≡ x ++ left next = is.front ∙ use_whole used (left next) in
     let size : length (settled (left c)) ≡ length (codes "use ") + length (used ++ (codes ";" ++ left next)) = ap length is.front ∙ length-append (codes "use ") (used ++ (codes ";" ++ left next)) in
     let s = next_shared n c text le (omega (arith, size)) like in
     let front : left c ≡ (s.front ++ x) ++ left next = s.a_is ∙ ap (λ (y : List ℕ). s.front ++ y) whole ∙ sym (append_assoc s.front x (left next)) in
-    let b = taken_before n c next same like.whole like.counted far (s.front ++ x) front in
+    let b = taken_at n c next same far (s.front ++ x) front in
     let lines = b.0 in
     let parts = b.1 in
     let z = use_shared (n - feeds (front_of c)) (left c) used (left next) text (left_utf8 c like.whole) is.front is.stops is.ends (omega (arith, lines, parts)) (like_left n c text (omega (arith, lines)) like) in
@@ -351,6 +357,10 @@ use_like n c next text used same is le far like =
     = s.b_is ∙ ap (λ (y : List ℕ). s.front ++ y) (z.front ∙ sym (append_assoc (codes "use ") used (codes ";" ++ z.other))) ∙ sym (append_assoc s.front (codes "use " ++ used) (59 ∷ z.other)) in
     let u : IsUtf8 z.other = behind_byte (s.front ++ (codes "use " ++ used)) 59 z.other (omega arith) (subst IsUtf8 closed like.is_text) in
     (z.other, record { front = z.front; stops = z.stops; ends = z.ends }, moves_front n c next (s.front ++ x) text z.other same front there u like)
+
+pub use_like : (n : ℕ) (c next : Cursor) (text used : List ℕ) → IsTaken c next → IsUse (left c) used (left next) → next_number c ≤ n → next_number next ≤ n → Like n c text →
+    (rest : List ℕ) × IsUse text used rest × Moves n c next text rest
+use_like n c next text used same is le far like = use_near n c next text used same is le (next_place n c next same like.whole like.counted far) like
 
 -- user code that is there
 pub code_like : (n : ℕ) (c next : Cursor) (text code : List ℕ) → IsTaken c next → IsCode (left c) code (left next) → next_number next ≤ n → Like n c text →
@@ -388,7 +398,7 @@ table_like n c next text numbers same is far like =
       counted = omega (arith, ap feeds same, like.counted);
       same = sym whole ∙ ap (first_lines n) (front_whole next);
     } in
-    (z.other, z.reads, record { like = there; size = omega (arith, size) })
+    (z.other, z.reads, record { like = there; taken = same; size = omega (arith, size) })
 
 -- a table that is broken where the line was looked at
 pub no_table_like : (n place : ℕ) (c : Cursor) (text : List ℕ) → IsBroken true (left c) (drop place c.text.now) → number_at place c.text.now ≤ n → Like n c text → entries text ≡ None
@@ -581,11 +591,11 @@ use_spelled n c text z le some like e =
     }
 
 -- the text behind `use `, where it starts
-record Behind (w y : List ℕ) (from : ℕ) : Type 0 where
-  there : drop from w ≡ y
-  at : IsCharBoundary w from
+pub record Behind (w y : List ℕ) (from : ℕ) : Type 0 where
+  pub there : drop from w ≡ y
+  pub at : IsCharBoundary w from
 
-behind_use : (w y : List ℕ) (start from : ℕ) → length w < 2 ^ 64 → drop start w ≡ codes "use " ++ y → IsUtf8 y → from ≡ min (start + 4) (2 ^ 64 - 1) → Behind w y from
+pub behind_use : (w y : List ℕ) (start from : ℕ) → length w < 2 ^ 64 → drop start w ≡ codes "use " ++ y → IsUtf8 y → from ≡ min (start + 4) (2 ^ 64 - 1) → Behind w y from
 behind_use w y start from size at u is =
     let four : length (codes "use ") ≡ 4 = refl in
     let all = sym (length-drop start w) ∙ ap length at ∙ length-append (codes "use ") y in

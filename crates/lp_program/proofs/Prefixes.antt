@@ -32,7 +32,7 @@ use_front x =
     ∙ ap (λ (l : List ℕ). 117 ∷ l)
     (text_front 115 (101 ∷ 32 ∷ x) refl ∙ ap (λ (l : List ℕ). 115 ∷ l) (text_front 101 (32 ∷ x) refl ∙ ap (λ (l : List ℕ). 101 ∷ l) (text_front 32 x refl)))
 
-use_begins : (text used rest : List ℕ) → IsUse text used rest → starts_with eqb (front_line (settled text)) (codes "use ") ≡ true
+pub use_begins : (text used rest : List ℕ) → IsUse text used rest → starts_with eqb (front_line (settled text)) (codes "use ") ≡ true
 use_begins text used rest u =
     let behind : List ℕ = used ++ (codes ";" ++ rest) in
     ap (λ (t : List ℕ). starts_with eqb (front_line t) (codes "use ")) u.front ∙ ap (λ (t : List ℕ). starts_with eqb t (codes "use ")) (use_front behind) ∙ starts_again (codes "use ") (front_line behind)
@@ -182,11 +182,11 @@ name_answered text there line rest name i (Some p) s t at e f =
     s.on p.now (shown there rest (subst (λ (l : List ℕ). TakesLine l there rest) (at ∙ ap (λ (x : List ℕ). renaming ++ x) e) t) f)
 
 -- in a text of line feeds alone nothing counts, and so no prefix is shown
-none_skipped : is_skipped (trim_start []) ≡ true
+pub none_skipped : is_skipped (trim_start []) ≡ true
 unfolding trim_start chars
 none_skipped = refl
 
-only_feeds : (text : List ℕ) → feeds text ≡ length text → settled text ≡ []
+pub only_feeds : (text : List ℕ) → feeds text ≡ length text → settled text ≡ []
 only_feeds [] e = settled_none
 only_feeds (b ∷ text) e = elim (cases_Bool (b == 10)) [
   | inl y ↦

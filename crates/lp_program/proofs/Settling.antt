@@ -33,7 +33,7 @@ trim_short text u = subst (λ (y : List ℕ). length (encode_utf8_all (skip_lead
 first_line : (text : List ℕ) → line_len text ≤ length text
 first_line text = let h : 0 ≤ length text = omega arith in omega (arith, line_in text 0 h)
 
-line_text : (text : List ℕ) → IsUtf8 text → IsUtf8 (front_line text)
+pub line_text : (text : List ℕ) → IsUtf8 text → IsUtf8 (front_line text)
 line_text text u =
     let h : 0 ≤ length text = omega arith in
     let there : 0 + line_len text ≡ line_len text = omega arith in

@@ -116,7 +116,7 @@ part_begun depth prefix p g r e = record {
 abbrev pub StepAnswer : ℕ → List ℕ → Part → ℕ → List Content → template.Line → Told → Told → Reader → Bool → Reader → Type 0
 StepAnswer depth prefix p count before s old new a read c = AnswersSteps (StepChosen (Below depth prefix) prefix p count before s old) new a read c
 
-step_here : (depth : ℕ) (prefix pre : List ℕ) (p q : Part) (at : ℕ) (s : template.Line) (old new : Told) (f : Forest) (r a : Reader) (more : List Entry) (read : Bool) (c : Reader) → pre ≡ prefix → q ≡ p →
+pub step_here : (depth : ℕ) (prefix pre : List ℕ) (p q : Part) (at : ℕ) (s : template.Line) (old new : Told) (f : Forest) (r a : Reader) (more : List Entry) (read : Bool) (c : Reader) → pre ≡ prefix → q ≡ p →
     at + 1 ≡ length r.entries.items → a.entries.items ≡ r.entries.items ++ more → Holds more f → StepAnswer depth pre q (kids at a) (held at a) s old new a read c →
     StepAnswer depth prefix p (tree_count f) (contents f) s old new a read c
 step_here depth prefix pre p q at s old new f r a more read c ep eq last es h x =

@@ -16,3 +16,4 @@ pub mod Prefixes
 pub mod Parameters
 pub mod Choosing
 pub mod Answering
+pub mod Starting

@@ -2,7 +2,7 @@
 use Rattle.std.specs.Prelude.{◌≡◌, ℕ, ◌+◌, ◌^◌, ◌<◌, ◌≤◌, List, ◌++◌, length, take}
 use Rattle.std.specs.Str.{IsUtf8}
 use Rattle.lp_spelling.specs.Counting.{feeds}
-use Rattle.lp_spelling.specs.Cursors.{left}
+use Rattle.lp_spelling.specs.Cursors.{left, IsTaken}
 use Rattle.lp_spelling.specs.LineNumbers.{number_at}
 use Rattle.lp_local.specs.Agreeing.{Agree}
 use Rattle.lp_spelling.specs.declared.cursor.Cursor.{Cursor}
@@ -30,6 +30,7 @@ OfLike line c Holds = (n : ℕ) → line ≤ n → EachLike n c Holds
 -- from one cursor to another as much is taken off another text, and its rest is like what is left there
 pub record Moves (n : ℕ) (old new : Cursor) (text rest : List ℕ) : Type 0 where
   pub like : Like n new rest
+  pub taken : IsTaken old new
   pub size : length text + length (left new) ≡ length rest + length (left old)
 
 -- what is taken so off each text that is like what is left

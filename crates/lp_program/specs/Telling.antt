@@ -73,12 +73,7 @@ TellsOwn prefix p count pieces _ old new text rest = (new ≡ old) × (rest ≡ 
 abbrev pub NotTold : (Told → List ℕ → Type 0) → Type 0
 NotTold Tells = (new : Told) (rest : List ℕ) → Tells new rest → ⊥
 
--- an answer: what is told and left, or that nothing is told so
-abbrev pub Answers : (Told → List ℕ → Type 0) → Bool → Told → List ℕ → Type 0
-Answers Tells true new rest = Tells new rest
-Answers Tells false new rest = NotTold Tells
-
--- the same, where the answer is the place behind what was taken, or none
+-- an answer, the place behind what was taken, or none: what is told and left, or that nothing is told so
 abbrev pub AnswersPlace : (Told → List ℕ → Type 0) → Growing → Option Cursor → Type 0
 AnswersPlace Tells new (Some next) = Tells (told new) (left next)
 AnswersPlace Tells new None = NotTold Tells

@@ -3,6 +3,7 @@
 ghost use Rattle.std.specs.Prelude.{◌≡◌, ℕ, List, map, length, IfOk, IfSome};
 ghost use Rattle.std.specs.Bool.{OnTrue};
 ghost use Rattle.lp_form.specs.Templates.{piece, holes_of};
+ghost use Rattle.lp_form.specs.declared.template.Step.TheVariants as step_of;
 ghost use Rattle.lp_spelling.specs.Lines.{line_of};
 ghost use Rattle.lp_program.specs.OwnLines.{hole};
 ghost use Rattle.lp_spelling.specs.Cursors.{left, IsTaken};
@@ -10,6 +11,8 @@ ghost use Rattle.lp_program.specs.CodeReading.{IsUse, IsCode};
 ghost use Rattle.lp_program.specs.Reads.{TakesLine, TakesLines};
 ghost use Rattle.lp_program.specs.Growing.{Grows, MayBecome};
 ghost use Rattle.lp_program.specs.Looking.{AnswersLine, OfLines};
+ghost use Rattle.lp_program.specs.Nearby.{next_number};
+ghost use Rattle.lp_program.specs.Starting.{OfNewLook, StepStarts};
 ghost use Rattle.lp_program.specs.Telling.{told, TellsLine, TellsLines, TellsText, AnswersLines, AnswersPlace};
 
 use crate::read::taking::{take_code, take_use};
@@ -82,6 +85,7 @@ pub(crate) fn lines_step<'t>(
     ensures grows { IfOk result (λ r. OnTrue r.1 (Grows scope.entry.prefix.now growing.old growing.new)) }
     ensures takes { IfOk result (λ r. OnTrue r.1 ((c : _) → MayBecome growing.new c → TakesLines count (line_of scope.entry.prefix.now c.holes (map piece pieces.now)) (left cursor.entry) (left r.0))) }
     ensures tells { IfOk result (λ r. AnswersLines cursor.entry (λ text new rest. TellsLines count scope.entry.prefix.now scope.entry.kinds.now (map piece pieces.now) (told growing.old) new text rest) r.1 growing.new r.0) }
+    ensures begun { IfOk result (λ r. (blanks : ℕ) → OfNewLook (next_number cursor.entry) cursor.entry (next_number r.0) (StepStarts scope.entry.prefix.now growing.old count (step_of.Each blanks, map piece pieces.now))) }
 {
     let mut place = cursor;
     for _i in 0..count {

@@ -8,9 +8,9 @@ use crate::read::taking::take_use;
 use lp_spelling::cursor::Cursor;
 use lp_texts::is_identifier;
 
-/// What stands for a prefix that isn't shown: no line has it, so that each line that wants the prefix
-/// fails.
-pub(crate) const NO_PREFIX: &str = "\n";
+/// What stands for a prefix that isn't shown: a text that shows none fails at the latest where the
+/// standard uses show it.
+pub(crate) const NO_PREFIX: &str = "__";
 
 /// The prefix of a name of the standard uses, with what follows it on the line: it isn't empty, and
 /// what it makes of `lalrpop_util` is an identifier.

@@ -15,10 +15,12 @@ ghost use Rattle.lp_program.specs.Begins.{Begins, IsUseFirst};
 ghost use Rattle.lp_program.specs.Choosing.{AnyChosen, Below, BodyChosen, ClassChosen, EitherChosen, InlinedChosen, IsChosen, IsRefused, MemberChosen, OptionalChosen, PairChosen, PartChosen, PartSteps, StepChosen, WholeChosen};
 ghost use Rattle.lp_program.specs.CodeReading.{IsUse, IsCode};
 ghost use Rattle.lp_program.specs.Looking.{Chooses, OfLines, Picks};
-ghost use Rattle.lp_program.specs.Nearby.{OfLike};
+ghost use Rattle.lp_program.specs.Nearby.{OfLike, next_number};
 ghost use Rattle.lp_program.specs.Parameters.{first_or, last_parameter, parameter_after, parameters_of};
 ghost use Rattle.lp_program.specs.Printed.{is_member};
 ghost use Rattle.lp_program.specs.Reads.{ReadsAs};
+ghost use Rattle.lp_program.specs.Starting.{Begun, IsBegun, MemberStarts, OfNewLook, OwnBegun, PairStarts, StepStarts};
+ghost use Rattle.lp_program.specs.Starting.Goal.{below_step, one_part};
 ghost use Rattle.lp_program.specs.Telling.{AnswersOwn, OwnTold, StepTells, TellsTable, TellsText, told, untold};
 ghost use Rattle.lp_program.specs.Trees.{content};
 ghost use Rattle.lp_program.specs.Trees.Forest.{bare};
@@ -40,8 +42,8 @@ use std::borrow::CowStr;
 #[derive(Clone, Copy, Debug, PartialEq, Eq)]
 pub enum ReadFault {
     /// The first line, from 1, that fits no form at its place; one past the last line where the
-    /// text ends too early. It is the last line that was looked at: whatever stands behind it, the
-    /// text isn't read.
+    /// text ends too early. The lines before it begin a program; and no text with the same lines up
+    /// to it is read as one that has the prefix which this text shows.
     NoForm { line: usize },
     Memory,
 }
@@ -78,6 +80,7 @@ pub fn read_program<'t>(alloc: Global, text: &'t str) -> Result<Program<'t>, Rea
     ensures reads { IfOk result (ReadsAs text.now) }
     ensures chosen { IfOk result (IsChosen text.now) }
     ensures refused { IfErr result (IsRefused text.now) }
+    ensures begun { IfErr result (IsBegun text.now) }
 {
     let shown = prefix_of(text);
     let mut reader = Reader {
@@ -122,6 +125,7 @@ impl<'t> Reader<'t> {
         ensures kept { self.new ≡ record self.old { looked = self.new.looked } }
         ensures looked { self.old.looked ≤ self.new.looked }
         ensures at { line ≤ self.new.looked }
+        ensures new_is { self.old.looked < self.new.looked → self.new.looked ≡ line }
     {
         if line > self.looked {
             self.looked = line;
@@ -142,6 +146,7 @@ impl<'t> Reader<'t> {
         ensures looked { self.old.looked ≤ self.new.looked }
         ensures none { IsTrue result → settled (left self.old.cursor) ≡ [] }
         ensures exact { OfLike self.new.looked self.old.cursor (λ text. Decides result (settled text ≡ [])) }
+        ensures begun { OfNewLook self.old.looked self.old.cursor self.new.looked (λ text. settled text ≡ []) }
     {
         let cursor = self.cursor;
         self.look_at(cursor.number());
@@ -152,6 +157,7 @@ impl<'t> Reader<'t> {
     fn read_whole(&mut self) -> Result<bool, AllocError>
         ensures reads { IfOk result (λ b. OnTrue b (WholeRead self.old self.new)) }
         ensures chosen { IfOk result (λ b. AnswersTrees (WholeChosen self.old.prefix.now) self.old b self.new) }
+        ensures begun { OnOk result (Begun (one_part part_of.Program) self.old self.new) }
     {
         if !self.read_part(DEPTH, Part::Program)? {
             return Ok(false);
@@ -164,6 +170,7 @@ impl<'t> Reader<'t> {
     fn read_part(&mut self, depth: usize, part: Part) -> Result<bool, AllocError>
         ensures reads { IfOk result (λ b. Brings (IsPart part) self.old b self.new) }
         ensures chosen { IfOk result (λ b. AnswersTrees (PartChosen depth self.old.prefix.now part) self.old b self.new) }
+        ensures begun { OnOk result (Begun (one_part part) self.old self.new) }
     {
         if depth == 0 {
             return Ok(false);
@@ -225,6 +232,7 @@ impl<'t> Reader<'t> {
         requires none { told growing.old ≡ untold }
         ensures reads { IfOk result (λ b. StepsBring growing.old.part growing.new self.old b self.new) }
         ensures chosen { IfOk result (λ b. AnswersSteps (PartSteps depth self.old.prefix.now (PartChosen depth self.old.prefix.now) growing.old.part) (told growing.new) self.old b self.new) }
+        ensures begun { OnOk result (Begun (one_part growing.old.part) self.old self.new) }
     {
         for step in steps(growing.part) {
             if !self.read_step(depth, at, *step, growing)? {
@@ -246,6 +254,7 @@ impl<'t> Reader<'t> {
         requires { at < length self.old.entries.items }
         ensures reads { IfOk result (λ b. StepBrings at (template.line step.entry) growing.old growing.new self.old b self.new) }
         ensures chosen { IfOk result (λ b. AnswersSteps (StepChosen (Below depth self.old.prefix.now) self.old.prefix.now growing.old.part (kids at self.old) (held at self.old) (template.line step.entry) (told growing.old)) (told growing.new) self.old b self.new) }
+        ensures begun { OnOk result (OfNewLook self.old.looked self.old.cursor self.new.looked (StepStarts self.old.prefix.now growing.old (kids at self.old) (template.line step.entry))) }
     {
         if !self.read_own(at, step, growing)? {
             return Ok(false);
@@ -265,6 +274,7 @@ impl<'t> Reader<'t> {
         ensures looked { OnOk result (self.old.looked ≤ self.new.looked) }
         ensures takes { IfOk result (λ b. OnTrue b (OwnTaken self.old.prefix.now growing.old growing.new (kids at self.old) (template.line step.entry) (left self.old.cursor) (left self.new.cursor))) }
         ensures tells { IfOk result (λ b. OwnTold self.old.prefix.now growing.old (kids at self.old) (template.line step.entry) self.old b growing.new self.new) }
+        ensures begun { OnOk result (OfNewLook self.old.looked self.old.cursor self.new.looked (StepStarts self.old.prefix.now growing.old (kids at self.old) (template.line step.entry))) }
     {
         let first = self.cursor.number();
         match self.own_taken(at, step, growing)? {
@@ -292,6 +302,7 @@ impl<'t> Reader<'t> {
         requires { at < length self.now.entries.items }
         ensures takes { IfOk result (λ r. IfOk r (λ next. OwnTaken self.now.prefix.now growing.old growing.new (kids at self.now) (template.line step.entry) (left self.now.cursor) (left next))) }
         ensures tells { IfOk result (AnswersOwn self.now.cursor (StepTells self.now.prefix.now growing.old (kids at self.now) (template.line step.entry)) growing.new) }
+        ensures begun { IfOk result (OwnBegun self.now.cursor (StepStarts self.now.prefix.now growing.old (kids at self.now) (template.line step.entry))) }
     {
         match step.0 {
             Step::Line(_) => {
@@ -323,7 +334,8 @@ impl<'t> Reader<'t> {
 
     /// A place, or else the next line, which doesn't fit.
     fn or_misfit(&self, next: Option<Cursor<'t>>) -> Result<Cursor<'t>, usize>
-        ensures { MatchResult result (λ place. next.entry ≡ Some place) (λ line. next.entry ≡ None) }
+        ensures either { MatchResult result (λ place. next.entry ≡ Some place) (λ line. next.entry ≡ None) }
+        ensures line { IfErr result (λ line. line ≡ next_number self.now.cursor) }
     {
         match next {
             Some(place) => Ok(place),
@@ -343,6 +355,7 @@ impl<'t> Reader<'t> {
     fn use_taken(&self, growing: &mut Growing<'t>) -> Result<Result<Cursor<'t>, usize>, AllocError>
         ensures takes { IfOk result (λ r. IfOk r (λ next. (count : ℕ) (pieces : List template.Piece) → OwnTaken self.now.prefix.now growing.old growing.new count (step_of.Use, pieces) (left self.now.cursor) (left next))) }
         ensures tells { IfOk result (AnswersOwn self.now.cursor (λ text. TellsText growing.old.part (IsUse text) (told growing.old)) growing.new) }
+        ensures begun { IfOk result (λ r. (count : ℕ) (pieces : List template.Piece) → OwnBegun self.now.cursor (StepStarts self.now.prefix.now growing.old count (step_of.Use, pieces)) r) }
     {
         if !is_blank_part(growing) {
             return Ok(Err(0));
@@ -350,6 +363,9 @@ impl<'t> Reader<'t> {
         match use_step(growing, self.cursor)? {
             Some(place) => Ok(Ok(place)),
             None => {
+                if !is_use_first(self.cursor) {
+                    return Ok(Err(0));
+                }
                 let from = self.cursor.start().saturating_add(4);
                 Ok(Err(cut_line(self.cursor, from)))
             }
@@ -360,6 +376,7 @@ impl<'t> Reader<'t> {
     fn code_taken(&self, growing: &mut Growing<'t>) -> Result<Result<Cursor<'t>, usize>, AllocError>
         ensures takes { IfOk result (λ r. IfOk r (λ next. (count : ℕ) (pieces : List template.Piece) → OwnTaken self.now.prefix.now growing.old growing.new count (step_of.Code, pieces) (left self.now.cursor) (left next))) }
         ensures tells { IfOk result (AnswersOwn self.now.cursor (λ text. TellsText growing.old.part (IsCode text) (told growing.old)) growing.new) }
+        ensures begun { IfOk result (λ r. (count : ℕ) (pieces : List template.Piece) → OwnBegun self.now.cursor (StepStarts self.now.prefix.now growing.old count (step_of.Code, pieces)) r) }
     {
         if !is_blank_part(growing) {
             return Ok(Err(0));
@@ -377,6 +394,7 @@ impl<'t> Reader<'t> {
     ) -> Result<Result<Cursor<'t>, usize>, AllocError>
         ensures takes { IfOk result (λ r. IfOk r (λ next. (count : ℕ) (pieces : List template.Piece) → OwnTaken self.now.prefix.now growing.old growing.new count (step_of.Entries, pieces) (left self.now.cursor) (left next))) }
         ensures tells { IfOk result (AnswersOwn self.now.cursor (λ text new rest. TellsTable (told growing.old) new text rest) growing.new) }
+        ensures begun { IfOk result (λ r. (count : ℕ) (pieces : List template.Piece) → OwnBegun self.now.cursor (StepStarts self.now.prefix.now growing.old count (step_of.Entries, pieces)) r) }
     {
         if growing.tabled {
             return Ok(Err(0));
@@ -398,6 +416,7 @@ impl<'t> Reader<'t> {
         requires { at < length self.old.entries.items }
         ensures reads { IfOk result (λ b. Brings (MayHave step) self.old b self.new) }
         ensures chosen { IfOk result (λ b. AnswersTrees (Below depth self.old.prefix.now step (held at self.old)) self.old b self.new) }
+        ensures begun { OnOk result (Begun (below_step step) self.old self.new) }
     {
         match step {
             Step::One(class) => self.read_class(depth, at, class),
@@ -422,6 +441,7 @@ impl<'t> Reader<'t> {
         ensures kept { OnOk result (self.new ≡ record self.old { looked = self.new.looked }) }
         ensures looked { OnOk result (self.old.looked ≤ self.new.looked) }
         ensures exact { IfOk result (λ b. OfLike self.new.looked self.old.cursor (λ text. OfLines text (λ lines. Decides b (Begins depth self.old.prefix.now part lines)))) }
+        ensures begun { OnOk result (Begun (one_part part) self.old self.new) }
     {
         if depth == 0 {
             return Ok(false);
@@ -458,6 +478,7 @@ impl<'t> Reader<'t> {
         ensures kept { self.new ≡ record self.old { looked = self.new.looked } }
         ensures looked { self.old.looked ≤ self.new.looked }
         ensures exact { OfLike self.new.looked cursor.entry (λ text. OfLines text (λ lines. Decides result (IsUseFirst lines))) }
+        ensures begun { OfNewLook self.old.looked cursor.entry self.new.looked (λ text. settled text ≡ []) }
     {
         self.look_at(cursor.number());
         is_use_first(cursor)
@@ -470,6 +491,7 @@ impl<'t> Reader<'t> {
         ensures looked { OnOk result (self.old.looked ≤ self.new.looked) }
         ensures member { IfOk result (λ r. IfSome r (λ part. is_member class part ≡ true)) }
         ensures exact { IfOk result (λ r. OfLike self.new.looked self.old.cursor (λ text. OfLines text (Picks depth self.old.prefix.now class r))) }
+        ensures begun { OnOk result (OfNewLook self.old.looked self.old.cursor self.new.looked (MemberStarts self.old.prefix.now class)) }
     {
         for part in members(class) {
             if self.begins(depth, *part)? {
@@ -485,6 +507,7 @@ impl<'t> Reader<'t> {
         ensures looked { OnOk result (self.old.looked ≤ self.new.looked) }
         ensures member { IfOk result (λ r. IfSome r (λ part. is_member class part ≡ true)) }
         ensures exact { IfOk result (λ r. OfLike self.new.looked self.old.cursor (λ text. OfLines text (Chooses depth self.old.prefix.now class r))) }
+        ensures begun { OnOk result (OfNewLook self.old.looked self.old.cursor self.new.looked (MemberStarts self.old.prefix.now class)) }
     {
         let parts = members(class);
         if parts.len() == 1 {
@@ -499,6 +522,7 @@ impl<'t> Reader<'t> {
         requires { at < length self.old.entries.items }
         ensures reads { IfOk result (λ b. Brings (MayHave (step_of.One class)) self.old b self.new) }
         ensures chosen { IfOk result (λ b. AnswersTrees (ClassChosen depth self.old.prefix.now (PartChosen depth self.old.prefix.now) (held at self.old) class) self.old b self.new) }
+        ensures begun { OnOk result (OfNewLook self.old.looked self.old.cursor self.new.looked (MemberStarts self.old.prefix.now class)) }
     {
         match class {
             Class::ActionBody => self.read_body(depth, at),
@@ -511,6 +535,7 @@ impl<'t> Reader<'t> {
     fn read_member(&mut self, depth: usize, class: Class) -> Result<bool, AllocError>
         ensures reads { IfOk result (λ b. Brings (MayHave (step_of.One class)) self.old b self.new) }
         ensures chosen { IfOk result (λ b. AnswersTrees (MemberChosen depth self.old.prefix.now (PartChosen depth self.old.prefix.now) class) self.old b self.new) }
+        ensures begun { OnOk result (OfNewLook self.old.looked self.old.cursor self.new.looked (MemberStarts self.old.prefix.now class)) }
     {
         match self.choose(depth, class)? {
             Some(part) => self.read_part(depth, part),
@@ -523,6 +548,7 @@ impl<'t> Reader<'t> {
     fn read_optional(&mut self, depth: usize, class: Class) -> Result<bool, AllocError>
         ensures reads { IfOk result (λ b. Brings (MayHave (step_of.Optional class)) self.old b self.new) }
         ensures chosen { IfOk result (λ b. AnswersTrees (OptionalChosen depth self.old.prefix.now (PartChosen depth self.old.prefix.now) class) self.old b self.new) }
+        ensures begun { OnOk result (Begun (below_step (step_of.Optional class)) self.old self.new) }
     {
         match self.pick(depth, class)? {
             Some(part) => self.read_part(depth, part),
@@ -535,6 +561,7 @@ impl<'t> Reader<'t> {
     fn read_many(&mut self, depth: usize, class: Class) -> Result<bool, AllocError>
         ensures reads { IfOk result (λ b. Brings (MayHave (step_of.Many class)) self.old b self.new) }
         ensures chosen { IfOk result (λ b. AnswersTrees (AnyChosen depth self.old.prefix.now (λ p sofar. PartChosen depth self.old.prefix.now p) class bare) self.old b self.new) }
+        ensures begun { OnOk result (Begun (below_step (step_of.Many class)) self.old self.new) }
     {
         'parts: loop {
             let ahead = self.ahead().len();
@@ -556,6 +583,7 @@ impl<'t> Reader<'t> {
         requires { at < length self.old.entries.items }
         ensures reads { IfOk result (λ b. Brings (MayHave (step_of.Some class)) self.old b self.new) }
         ensures chosen { IfOk result (λ b. AnswersTrees (Below depth self.old.prefix.now (step_of.Some class) (held at self.old)) self.old b self.new) }
+        ensures begun { OnOk result (Begun (below_step (step_of.Some class)) self.old self.new) }
     {
         if !self.read_class(depth, at, class)? {
             return Ok(false);
@@ -575,6 +603,7 @@ impl<'t> Reader<'t> {
         requires { at < length self.old.entries.items }
         ensures reads { IfOk result (λ b. Brings (MayHave (step_of.Pairs first second)) self.old b self.new) }
         ensures chosen { IfOk result (λ b. AnswersTrees (Below depth self.old.prefix.now (step_of.Pairs first second) (held at self.old)) self.old b self.new) }
+        ensures begun { OnOk result (Begun (below_step (step_of.Pairs first second)) self.old self.new) }
     {
         'pairs: loop {
             let ahead = self.ahead().len();
@@ -602,6 +631,7 @@ impl<'t> Reader<'t> {
         requires { at < length self.old.entries.items }
         ensures reads { IfOk result (λ b. Brings (IsPair part second) self.old b self.new) }
         ensures chosen { IfOk result (λ b. AnswersTrees (PairChosen depth self.old.prefix.now (PartChosen depth self.old.prefix.now) (held at self.old) second part) self.old b self.new) }
+        ensures begun { OnOk result (OfNewLook self.old.looked self.old.cursor self.new.looked (PairStarts self.old.prefix.now part second)) }
     {
         if !self.read_part(depth, part)? {
             return Ok(false);
@@ -616,6 +646,7 @@ impl<'t> Reader<'t> {
         requires { at < length self.old.entries.items }
         ensures reads { IfOk result (λ b. Brings (MayHave (step_of.One class_of.ActionBody)) self.old b self.new) }
         ensures chosen { IfOk result (λ b. AnswersTrees (BodyChosen (PartChosen depth self.old.prefix.now) (parameters_of self.old.prefix.now (last_parameter [] (held at self.old)))) self.old b self.new) }
+        ensures begun { OnOk result (OfNewLook self.old.looked self.old.cursor self.new.looked (MemberStarts self.old.prefix.now class_of.ActionBody)) }
     {
         match self.last_parameter(at + 1) {
             Parameters::User => self.read_part(depth, Part::UserBody),
@@ -629,6 +660,7 @@ impl<'t> Reader<'t> {
     fn read_either(&mut self, depth: usize) -> Result<bool, AllocError>
         ensures reads { IfOk result (λ b. Brings (MayHave (step_of.One class_of.ActionBody)) self.old b self.new) }
         ensures chosen { IfOk result (λ b. AnswersTrees (EitherChosen (PartChosen depth self.old.prefix.now)) self.old b self.new) }
+        ensures begun { OnOk result (OfNewLook self.old.looked self.old.cursor self.new.looked (MemberStarts self.old.prefix.now class_of.ActionBody)) }
     {
         if self.read_inlined(depth)? {
             return Ok(true);
@@ -642,6 +674,7 @@ impl<'t> Reader<'t> {
     fn read_inlined(&mut self, depth: usize) -> Result<bool, AllocError>
         ensures reads { IfOk result (λ b. Reread (IsPart part_of.InlineBody) self.old b self.new) }
         ensures chosen { IfOk result (λ b. AnswersTrees (InlinedChosen (PartChosen depth self.old.prefix.now)) self.old b self.new) }
+        ensures begun { OnOk result (OfNewLook self.old.looked self.old.cursor self.new.looked (MemberStarts self.old.prefix.now class_of.ActionBody)) }
     {
         let cursor = self.cursor;
         let count = self.entries.len();
@@ -658,6 +691,7 @@ impl<'t> Reader<'t> {
     fn read_closed(&mut self, depth: usize) -> Result<bool, AllocError>
         ensures reads { IfOk result (λ b. Brings (IsPart part_of.InlineBody) self.old b self.new) }
         ensures chosen { IfOk result (λ b. AnswersTrees (InlinedChosen (PartChosen depth self.old.prefix.now)) self.old b self.new) }
+        ensures begun { OnOk result (OfNewLook self.old.looked self.old.cursor self.new.looked (MemberStarts self.old.prefix.now class_of.ActionBody)) }
     {
         if !self.read_part(depth, Part::InlineBody)? {
             return Ok(false);
@@ -670,6 +704,7 @@ impl<'t> Reader<'t> {
         ensures kept { self.new ≡ record self.old { looked = self.new.looked } }
         ensures looked { self.old.looked ≤ self.new.looked }
         ensures exact { OfLike self.new.looked self.old.cursor (λ text. Decides result (front_line (settled text) ≡ codes "}")) }
+        ensures begun { OfNewLook self.old.looked self.old.cursor self.new.looked (λ text. settled text ≡ []) }
     {
         let cursor = self.cursor;
         self.look_at(cursor.number());

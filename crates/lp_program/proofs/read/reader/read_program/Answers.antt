@@ -6,6 +6,7 @@ use Rattle.lp_program.specs.declared.read.reader.Reader.{Reader}
 use Rattle.lp_program.proofs.Adding.{program_read}
 use Rattle.lp_program.proofs.Nearby.{like_first}
 use Rattle.lp_program.proofs.Prefixes.{shows_counted}
+use Rattle.lp_program.proofs.ProgramBegun.{no_prefix_fits, no_prefix_utf8, prefix_told, program_begun}
 use Rattle.lp_program.proofs.Whole.{program_chosen, program_refused, read_none}
 use Rattle.lp_program.proofs.read.reader.read_program.Goals as goal
 
@@ -39,3 +40,18 @@ returns-then-not-branch-clause-refused c = λ other u lines program shows.
 
 pub returns-in_default-clause-refused : goal.returns-in_default-clause-refused
 returns-in_default-clause-refused c = λ other u lines program shows x. (rw c.in_default.is at c.prefix_of-shown.ensures.exact) program.prefix shows
+
+-- what the lines begin that were looked at
+pub returns-then-not-branch-clause-begun : goal.returns-then-not-branch-clause-begun
+returns-then-not-branch-clause-begun c =
+    let text = c.args.text.now in
+    let old : Reader = record { alloc = c.args.alloc; prefix = c.unwrap_or.result; cursor = c.new.result; looked = 0; entries = c.new-2.result } in
+    let prefix = prefix_told text _ _ c.unwrap_or.result c.unwrap_or.ensures c.utf8.text c.prefix_of-shown.ensures.fits c.prefix_of-shown.ensures.exact no_prefix_utf8 no_prefix_fits in
+    program_begun text old c.read_whole.new.self c.utf8.text c.prefix_of-shown.ensures.size c.new.ensures.text c.new.ensures.rest refl c.in_ok-read_whole.ensures.begun prefix.0 prefix.1
+
+pub returns-in_default-clause-begun : goal.returns-in_default-clause-begun
+returns-in_default-clause-begun c =
+    let text = c.args.text.now in
+    let old : Reader = record { alloc = c.args.alloc; prefix = c.unwrap_or.result; cursor = c.new.result; looked = 0; entries = c.new-2.result } in
+    let prefix = prefix_told text _ _ c.unwrap_or.result c.unwrap_or.ensures c.utf8.text c.prefix_of-shown.ensures.fits c.prefix_of-shown.ensures.exact no_prefix_utf8 no_prefix_fits in
+    program_begun text old c.read_whole.new.self c.utf8.text c.prefix_of-shown.ensures.size c.new.ensures.text c.new.ensures.rest refl c.in_ok-read_whole.ensures.begun prefix.0 prefix.1

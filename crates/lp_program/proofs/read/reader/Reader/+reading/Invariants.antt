@@ -6,7 +6,10 @@ use Rattle.lp_program.specs.Adding.{Brings, MayHave}
 use Rattle.lp_program.specs.Answering.{held}
 use Rattle.lp_program.specs.Choosing.{contents, PairChosen, PartChosen}
 use Rattle.lp_program.specs.Trees.{Forest}
+use Rattle.lp_program.specs.Starting.{Begun}
+use Rattle.lp_program.specs.Starting.Goal.{below_step}
 use Rattle.lp_program.proofs.Adding.{PartSoFar}
+use Rattle.lp_program.proofs.Begun.{ReadSoFar, StepsBegun}
 use Rattle.lp_program.proofs.Found.{AnyReached}
 use Rattle.lp_program.proofs.Steps.{PartReached}
 use Rattle.lp_program.proofs.read.reader.Reader.+reading.Given as goal
@@ -66,16 +69,19 @@ abbrev pub invariant-read_steps-loop-step : goal.invariant-read_steps-loop-step
 invariant-read_steps-loop-step l = record {
   reads : PartSoFar l.fn.growing.part l.step-index l.growing l.fn.self l.self;
   chosen : (f : Forest) × PartReached l.depth l.fn.self.prefix.now l.fn.growing.part l.step-index l.growing f l.fn.self l.self;
+  begun : StepsBegun l.fn.self.prefix.now l.fn.growing.part l.step-index l.growing l.fn.self l.self;
 }
 
 abbrev pub invariant-read_many-parts : goal.invariant-read_many-parts
 invariant-read_many-parts l = record {
   reads : Brings (MayHave (step.Many l.class)) l.initial.self true l.self;
   chosen : AnyReached l.depth l.initial.self.prefix.now (λ p sofar. PartChosen l.depth l.initial.self.prefix.now p) l.class l.initial.self l.self;
+  begun : ReadSoFar l.initial.self.prefix.now (MayHave (step.Many l.class)) l.initial.self l.self × Begun (below_step (step.Many l.class)) l.initial.self l.self;
 }
 
 abbrev pub invariant-read_pairs-pairs : goal.invariant-read_pairs-pairs
 invariant-read_pairs-pairs l = record {
   reads : Brings (MayHave (step.Pairs l.first l.second)) l.initial.self true l.self;
   chosen : AnyReached l.depth l.initial.self.prefix.now (λ p sofar. PairChosen l.depth l.initial.self.prefix.now (PartChosen l.depth l.initial.self.prefix.now) (held l.at l.initial.self ++ contents sofar) l.second p) l.first l.initial.self l.self;
+  begun : ReadSoFar l.initial.self.prefix.now (MayHave (step.Pairs l.first l.second)) l.initial.self l.self × Begun (below_step (step.Pairs l.first l.second)) l.initial.self l.self;
 }

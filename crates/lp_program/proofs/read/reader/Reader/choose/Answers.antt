@@ -4,6 +4,7 @@ use Rattle.std.proofs.lemmas.Result.{IfOk-weaker}
 use Rattle.lp_form.specs.declared.part.Part.TheVariants as part
 use Rattle.lp_program.proofs.Looking.{member_at}
 use Rattle.lp_program.proofs.Picking.{chosen_one, chosen_picked}
+use Rattle.lp_program.proofs.Begun.{look_same}
 use Rattle.lp_program.proofs.read.reader.Reader.choose.Goals as goal
 
 pub returns-then-parts-eq1-clause-member : goal.returns-then-parts-eq1-clause-member
@@ -19,3 +20,6 @@ returns-clause-exact c =
     let parts = c.members-parts.result.now in
     IfOk-weaker c.pick.result _ _
     (λ r x n m text like. chosen_picked c.args.depth c.args.self.now.prefix.now c.args.class text parts r c.members-parts.ensures (λ h. absurd (omega (arith, h))) (x n m text like)) c.pick.ensures.exact
+
+pub returns-then-parts-eq1-clause-begun : goal.returns-then-parts-eq1-clause-begun
+returns-then-parts-eq1-clause-begun c = look_same c.args.self.now.looked c.args.self.now.looked c.args.self.now.cursor _ (omega arith)

@@ -1,6 +1,10 @@
-use Rattle.std.proofs.Common.{length}
+use Rattle.std.proofs.Common.{length, arith}
 use Rattle.lp_form.specs.Templates.{holes_of}
 use Rattle.lp_program.specs.Telling.{told}
+use Rattle.lp_program.specs.Nearby.{next_number}
+use Rattle.lp_program.proofs.Begun.{look_same}
+use Rattle.lp_program.proofs.CutBegun.{no_code_begun}
+use Rattle.lp_program.proofs.Stopping.{code_begun}
 use Rattle.lp_program.proofs.Telling.{blank_not, blank_part, code_told, no_code_told}
 use Rattle.lp_program.proofs.read.reader.Reader.code_taken.Goals as goal
 
@@ -19,9 +23,19 @@ returns-in-Some c =
     record {
       takes = λ count pieces. record { grows = step.grows c.args.self.now.prefix.now; takes = step.takes };
       tells = λ n le far text like. code_told n c.args.self.now.cursor c.in-Some.place text c.args.growing.now.part (told c.args.growing.now) _ step.tells step.same le far like;
+      begun = λ count pieces. code_begun c.args.self.now.prefix.now c.args.growing.now c.code_step.new.growing count pieces c.args.self.now.cursor c.in-Some.place step.same step.tells;
     }
 
 pub returns-in-None-clause-tells : goal.returns-in-None-clause-tells
 returns-in-None-clause-tells c =
     let step = rw c.in-None.is at c.in_ok-place.ensures in
     λ n le far text like. no_code_told n c.args.self.now.cursor text c.args.growing.now.part (told c.args.growing.now) _ step.tells (rw c.raw.ensures.raw at c.cut_line.ensures) le far like
+
+-- what the lines begin that were looked at
+pub returns-then-not-is_blank_part-clause-begun : goal.returns-then-not-is_blank_part-clause-begun
+returns-then-not-is_blank_part-clause-begun c = λ count pieces. look_same (next_number c.args.self.now.cursor) 0 c.args.self.now.cursor _ (omega arith)
+
+pub returns-in-None-clause-begun : goal.returns-in-None-clause-begun
+returns-in-None-clause-begun c =
+    let blank = blank_part (length (holes_of c.args.growing.now.part)) (length c.args.growing.now.holes.items) _ c.is_blank_part.ensures c.if-not-is_blank_part.false in
+    λ count pieces. no_code_begun c.args.self.now.prefix.now c.args.growing.now count pieces c.args.self.now.cursor _ blank.0 blank.1 (rw c.raw.ensures.raw at c.cut_line.ensures)
