@@ -1,0 +1,5 @@
+pub mod Fillings
+pub mod Least
+pub mod StepTests
+pub mod Held
+pub mod Viable

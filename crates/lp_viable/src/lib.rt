@@ -1,0 +1,2 @@
+//! Each beginning that a reader sees can be completed.
+#![tactic(auto)]
