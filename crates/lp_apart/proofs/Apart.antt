@@ -24,7 +24,7 @@ use Rattle.lp_apart.specs.Opens.{StepOpens, StepsOpen, Anything, Opens}
 use Rattle.lp_apart.specs.Signs.{Shows, signs}
 use Rattle.lp_apart.specs.Signs.Sign.{byte, unknown}
 use Rattle.lp_apart.specs.ApartTests.{Beginning, Opening, Test, whole_beginning, whole_opening, lines_apart, use_line, class_apart, step_apart, line_apart, begin_apart, steps_begin_apart, never, apart_within, end_text, ends_apart}
-use Rattle.lp_apart.proofs.Spelled.{line_spelled}
+use Rattle.lp_program.proofs.Spelled.{line_spelled}
 use Rattle.lp_apart.proofs.Showing.{SlotFills, PartsFill, shows_text, IsLine, is_line}
 use Rattle.lp_apart.proofs.Fronts.{ends_sound, fronts_sound}
 

@@ -1,6 +1,5 @@
 pub mod Tables
 pub mod Digits
-pub mod Spelled
 pub mod Showing
 pub mod Fronts
 pub mod Apart

@@ -20,7 +20,7 @@ use Rattle.lp_program.specs.Begins.{Lines, member, SomeMember, ReadsFirst, Steps
 use Rattle.lp_program.specs.Looking.{AreCounted, Picks}
 use Rattle.lp_program.specs.Trees.{Forest}
 use Rattle.lp_program.specs.Trees.Forest.{bare}
-use Rattle.lp_apart.proofs.Spelled.{line_spelled}
+use Rattle.lp_program.proofs.Spelled.{line_spelled}
 use Rattle.lp_program.specs.Choosing.{Reading, SeenLines, AnyChosen, ManyChosen, BelowChosen, StepsChosen, PartChosen}
 use Rattle.lp_found.specs.Inlined.{begins_inlined}
 use Rattle.lp_chosen.specs.Laws.{OthersAreNoInlined}

@@ -11,7 +11,7 @@ pub mod LeastTexts
 pub mod Parts
 pub mod GoingOn
 pub mod Trees
-pub mod Spelled
+pub mod Counted
 pub mod Told
 pub mod Contents
 pub mod StepTests

@@ -21,7 +21,8 @@ use Rattle.lp_program.specs.Reads.{TakesLine, TakesLines, TakesOwn}
 use Rattle.lp_program.specs.Telling.{Told, untold, TellsLine, TellsLines, TellsText, TellsTable, TellsOwn}
 use Rattle.lp_program.specs.Trees.{Content}
 use Rattle.lp_viable.specs.StepTests.{known_past, tabled_past, is_certain}
-use Rattle.lp_viable.proofs.Spelled.{LineRead, line_read}
+use Rattle.lp_program.proofs.Spelled.{line_spelled}
+use Rattle.lp_viable.proofs.Counted.{line_counts}
 
 -- a content keeps what is told: more holes may be told, and where a table is told it stays
 pub record Keeps (t : Told) (c : Content) : Type 0 where
@@ -43,9 +44,9 @@ keeps_line prefix kinds pieces old new c text rest k t =
 line_takes : (prefix : List ℕ) (kinds : List Kind) (pieces : List Piece) (old new : Told) (c : Content) (text rest : List ℕ) → Keeps new c → TellsLine prefix kinds pieces old new text rest →
     TakesLine (line_of prefix c.holes pieces) text rest
 line_takes prefix kinds pieces old new c text rest k t =
-    let l : LineRead prefix pieces old.holes t.line new.holes = line_read prefix kinds pieces old.holes t.line new.holes t.reads in
-    let stays : line_of prefix c.holes pieces ≡ line_of prefix new.holes pieces = ap (λ (h : List (List ℕ)). line_of prefix h pieces) k.holes_are ∙ line_stays prefix new.holes k.more pieces l.told in
-    record { some = t.takes.some; line_is = t.takes.line_is ∙ l.spelled ∙ sym stays; rest_is = t.takes.rest_is }
+    let l = line_spelled prefix kinds pieces old.holes t.line new.holes t.reads in
+    let stays : line_of prefix c.holes pieces ≡ line_of prefix new.holes pieces = ap (λ (h : List (List ℕ)). line_of prefix h pieces) k.holes_are ∙ line_stays prefix new.holes k.more pieces l.1 in
+    record { some = t.takes.some; line_is = t.takes.line_is ∙ l.0 ∙ sym stays; rest_is = t.takes.rest_is }
 
 -- lines of one spelling
 keeps_lines : (n : ℕ) (prefix : List ℕ) (kinds : List Kind) (pieces : List Piece) (old new : Told) (c : Content) (text rest : List ℕ) → Keeps new c → TellsLines n prefix kinds pieces old new text rest → Keeps old c
@@ -125,9 +126,8 @@ line_so_far : (prefix : List ℕ) (p : Part) (pieces : List Piece) (old new : To
     SoFar prefix p new (known_in pieces n) tabled
 line_so_far prefix p pieces old new n tabled text rest s t =
     let x = line_extends prefix (holes_of p) pieces old.holes t.line new.holes t.reads in
-    let l : LineRead prefix pieces old.holes t.line new.holes = line_read prefix (holes_of p) pieces old.holes t.line new.holes t.reads in
     record {
-      size = l.count ∙ ap (known_in pieces) s.size;
+      size = line_counts prefix (holes_of p) pieces old.holes t.line new.holes t.reads ∙ ap (known_in pieces) s.size;
       fills = λ k a b.
           (elim (cases_lt k (length old.holes)) [
             | inl small ↦
