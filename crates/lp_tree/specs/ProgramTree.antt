@@ -8,6 +8,7 @@ use Rattle.lp_tree.specs.declared.tree.Entry.{Entry}
 use Rattle.lp_form.specs.declared.part.Part.{Part}
 use Rattle.lp_tree.specs.declared.tree.Node.{Node}
 use Rattle.lp_tree.specs.declared.tree.Program.{Program}
+use Rattle.lp_tree.specs.declared.tree.RowNote.{RowNote}
 
 -- the forms among parts, in their order
 abbrev pub forms_of : List Entry → List FormKind
@@ -47,3 +48,41 @@ program_items p = map item p.entries.items
 -- a part with nothing below it
 abbrev pub leaf : Part → List (List ℕ) → List Item
 leaf part holes = (part, holes, [], 0) ∷ []
+
+-- a note: how many entries of a table stand in its row and those before it, the comment lines before
+-- the row, and what stands after each of its entries
+pub record Note : Type 0 where
+  pub end : ℕ
+  pub lines : List (List ℕ)
+  pub comments : List (List ℕ)
+
+abbrev pub noted : RowNote → Note
+noted n = record { end = n.end; lines = n.lines.items; comments = n.comments.items }
+
+-- a note of comment lines alone
+abbrev pub lines_note : List (List ℕ) → Note
+lines_note lines = record { end = 0; lines = lines; comments = [] }
+
+-- the notes of a part
+abbrev pub entry_notes : Entry → List Note
+entry_notes e = map noted e.notes.items
+
+-- the notes of the first part of a node
+abbrev pub head_notes : Node → List Note
+head_notes n = entry_notes n.first
+
+-- the notes of each part below the first one of a node
+abbrev pub notes_below : Node → List (List Note)
+notes_below n = map entry_notes n.below.items
+
+-- the notes of each part of a node, in the order of the text
+abbrev pub all_notes : Node → List (List Note)
+all_notes n = head_notes n ∷ notes_below n
+
+-- the notes of each part of a program, in the order of the text
+abbrev pub program_notes : Program → List (List Note)
+program_notes p = map entry_notes p.entries.items
+
+-- the notes of parts that have none
+abbrev pub unnoted : List Item → List (List Note)
+unnoted parts = map (λ _. []) parts

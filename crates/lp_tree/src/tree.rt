@@ -1,8 +1,8 @@
 //! Program trees as flat lists: each part before those below it, with their number.
 
-ghost use Rattle.std.specs.Prelude.{◌≡◌, [], ◌++◌, map, IfOk, OnOk};
+ghost use Rattle.std.specs.Prelude.{◌≡◌, [], ◌∷◌, ◌++◌, map, IfOk, OnOk};
 ghost use Rattle.std.specs.List.{flat_map};
-ghost use Rattle.lp_tree.specs.ProgramTree.{head, is_part, item, items, leaf, parts_below};
+ghost use Rattle.lp_tree.specs.ProgramTree.{all_notes, entry_notes, head, head_notes, is_part, item, items, leaf, lines_note, noted, notes_below, parts_below, unnoted};
 
 use crate::piece::Piece;
 use lp_form::Part;
@@ -64,7 +64,8 @@ pub struct Reduced {
 
 /// Puts the parts of a node behind others.
 pub fn push_node<'t>(entries: &mut Vec<Entry<'t>>, node: Node<'t>) -> Result<(), AllocError>
-    ensures { OnOk result (map item entries.new.items ≡ map item entries.old.items ++ items node.entry) }
+    ensures items { OnOk result (map item entries.new.items ≡ map item entries.old.items ++ items node.entry) }
+    ensures notes { OnOk result (map entry_notes entries.new.items ≡ map entry_notes entries.old.items ++ all_notes node.entry) }
 {
     let Node { first, mut below } = node;
     let Entry {
@@ -90,6 +91,7 @@ impl<'t> Node<'t> {
         ensures items { IfOk result (λ n. items n ≡ leaf part holes.entry.items) }
         ensures head { IfOk result (λ n. head n ≡ (part, holes.entry.items, [])) }
         ensures below { IfOk result (λ n. parts_below n ≡ []) }
+        ensures notes { IfOk result (λ n. all_notes n ≡ unnoted (leaf part holes.entry.items)) }
     {
         Ok(Node {
             first: Entry {
@@ -107,6 +109,8 @@ impl<'t> Node<'t> {
     pub fn add(&mut self, child: Node<'t>) -> Result<(), AllocError>
         ensures head { head self.new ≡ head self.old }
         ensures below { OnOk result (parts_below self.new ≡ parts_below self.old ++ items child.entry) }
+        ensures notes { head_notes self.new ≡ head_notes self.old }
+        ensures notes_below { OnOk result (notes_below self.new ≡ notes_below self.old ++ all_notes child.entry) }
     {
         push_node(&mut self.below, child)
     }
@@ -115,6 +119,8 @@ impl<'t> Node<'t> {
     pub fn add_all(&mut self, children: Vec<Node<'t>>) -> Result<(), AllocError>
         ensures head { head self.new ≡ head self.old }
         ensures below { OnOk result (parts_below self.new ≡ parts_below self.old ++ flat_map items children.entry.items) }
+        ensures notes { head_notes self.new ≡ head_notes self.old }
+        ensures notes_below { OnOk result (notes_below self.new ≡ notes_below self.old ++ flat_map all_notes children.entry.items) }
     {
         for child in children {
             self.add(child)?;
@@ -126,6 +132,8 @@ impl<'t> Node<'t> {
     pub fn add_below(&mut self, other: Node<'t>) -> Result<(), AllocError>
         ensures head { head self.new ≡ head self.old }
         ensures below { OnOk result (parts_below self.new ≡ parts_below self.old ++ parts_below other.entry) }
+        ensures notes { head_notes self.new ≡ head_notes self.old }
+        ensures notes_below { OnOk result (notes_below self.new ≡ notes_below self.old ++ notes_below other.entry) }
     {
         let Node {
             first: _,
@@ -134,9 +142,11 @@ impl<'t> Node<'t> {
         self.below.append(&mut below)
     }
 
-    /// Gives the first part the comment lines of a note.
+    /// Gives the first part one note, of these comment lines.
     pub fn note(&mut self, alloc: Global, lines: Vec<Piece<'t>>) -> Result<(), AllocError>
-        ensures { items self.new ≡ items self.old }
+        ensures items { items self.new ≡ items self.old }
+        ensures notes { OnOk result (head_notes self.new ≡ lines_note lines.entry.items ∷ []) }
+        ensures notes_below { notes_below self.new ≡ notes_below self.old }
     {
         let note = RowNote {
             end: 0,
@@ -147,10 +157,12 @@ impl<'t> Node<'t> {
         Ok(())
     }
 
-    /// Gives the first part the entries of a table.
+    /// Gives the first part the entries of a table, and its notes.
     pub fn fill(&mut self, numbers: Vec<i32>, notes: Vec<RowNote<'t>>)
         ensures head { head self.new ≡ ((head self.old).0, (head self.old).1, numbers.items) }
         ensures below { parts_below self.new ≡ parts_below self.old }
+        ensures notes { head_notes self.new ≡ map noted notes.entry.items }
+        ensures notes_below { notes_below self.new ≡ notes_below self.old }
     {
         self.first.numbers = numbers;
         self.first.notes = notes;
