@@ -1,7 +1,7 @@
 -- The last of several symbols is popped first.
 use Rattle.std.proofs.Common.{◌≡◌, ℕ, ◌+◌, List, [], ◌∷◌, ◌++◌, length, decimal, ap, sym, ◌∙◌, append_assoc, zero-add, arith}
 use Rattle.lp_form.specs.declared.part.Part.TheVariants as part
-use Rattle.lp_tree.specs.ProgramTree.{Item}
+use Rattle.lp_tree.specs.ProgramTree.{Item, Note, unnoted}
 use Rattle.lp_build.specs.Built.{row}
 use Rattle.lp_build.specs.Reductions.{pop_lines}
 
@@ -26,3 +26,10 @@ pub pops_more :
 pops_more done vs v =
     append_assoc done (row part.PopLine (decimal (length vs) ∷ v ∷ []) ∷ []) (pop_lines 0 vs)
     ∙ ap (λ (xs : List Item). done ++ xs) (sym (pops_last vs v))
+
+-- the lines have no notes
+pub pops_noted :
+    (done : List (List Note)) (vs : List (List ℕ)) (v : List ℕ) →
+    (done ++ [] ∷ []) ++ unnoted (pop_lines 0 vs) ≡ done ++ unnoted (pop_lines 0 (vs ++ v ∷ []))
+pops_noted done vs v =
+    append_assoc done ([] ∷ []) (unnoted (pop_lines 0 vs)) ∙ ap (λ (xs : List Item). done ++ unnoted xs) (sym (pops_last vs v))

@@ -2,10 +2,10 @@
 use Rattle.std.specs.Prelude.{ℕ, Bool, List, [], ◌∷◌, ◌++◌, map, drop, decimal, Option, Some, None, if◌then◌else◌}
 use Rattle.lp_form.specs.declared.part.Part.{Part}
 use Rattle.lp_form.specs.declared.part.Part.TheVariants as part
-use Rattle.lp_tree.specs.ProgramTree.{Item, is_part, items, leaf}
+use Rattle.lp_tree.specs.ProgramTree.{Item, Note, all_notes, is_part, items, leaf, unnoted}
 use Rattle.lp_tree.specs.declared.tree.Node.{Node}
 use Rattle.lp_tree.specs.declared.tree.Reduced.{Reduced}
-use Rattle.lp_build.specs.Built.{first_parts, leaf_if, over, row, text_rows}
+use Rattle.lp_build.specs.Built.{first_notes, first_parts, leaf_if, over, row, text_rows}
 use Rattle.lp_build.specs.declared.ascent.ErrorLocation.{ErrorLocation}
 use Rattle.lp_build.specs.declared.ascent.ErrorLocation.TheVariants as location
 use Rattle.lp_build.specs.declared.ascent.GotoLoopArm.{GotoLoopArm}
@@ -87,6 +87,13 @@ header_parts n = if is_part part.HeaderState n then items n else []
 abbrev pub but_header : Node → List Item
 but_header n = if is_part part.HeaderState n then [] else items n
 
+-- the notes of both
+abbrev pub header_notes : Node → List (List Note)
+header_notes n = if is_part part.HeaderState n then all_notes n else []
+
+abbrev pub but_header_notes : Node → List (List Note)
+but_header_notes n = if is_part part.HeaderState n then [] else all_notes n
+
 -- the gotos of a frame; without arms it answers the result
 abbrev pub loop_part : List GotoLoopArm → Part
 loop_part [] = part.GotoReturn
@@ -106,8 +113,23 @@ abbrev pub goto_rows : List GotoLoopArm → List Node → List Item
 goto_rows [] transitions = []
 goto_rows (a ∷ arms) transitions = goto_lines a transitions ++ goto_rows arms (drop 1 transitions)
 
+-- the notes of an arm with the first of the transitions: those of the transition
+abbrev pub goto_notes : List Node → List (List Note)
+goto_notes transitions = [] ∷ first_notes transitions
+
+-- the notes of the arms, each with the next transition
+abbrev pub goto_row_notes : List GotoLoopArm → List Node → List (List Note)
+goto_row_notes [] transitions = []
+goto_row_notes (a ∷ arms) transitions = goto_notes transitions ++ goto_row_notes arms (drop 1 transitions)
+
 -- what is below the gotos of a frame
 abbrev pub loop_lines : Option ℕ → List GotoLoopArm → Bool → List Node → List Item
 loop_lines top [] other transitions = []
 loop_lines top (a ∷ arms) other transitions =
     (check_lines top ++ goto_rows (a ∷ arms) transitions) ++ leaf_if other part.GotoOther
+
+-- and its notes
+abbrev pub loop_notes : Option ℕ → List GotoLoopArm → Bool → List Node → List (List Note)
+loop_notes top [] other transitions = []
+loop_notes top (a ∷ arms) other transitions =
+    (unnoted (check_lines top) ++ goto_row_notes (a ∷ arms) transitions) ++ unnoted (leaf_if other part.GotoOther)

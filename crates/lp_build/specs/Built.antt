@@ -2,7 +2,7 @@
 use Rattle.std.specs.Prelude.{ℕ, Bool, List, [], ◌∷◌, length, map, codes, Option, Some, None, if◌then◌else◌}
 use Rattle.std.specs.List.{join_by}
 use Rattle.lp_form.specs.declared.part.Part.{Part}
-use Rattle.lp_tree.specs.ProgramTree.{Item, items, leaf}
+use Rattle.lp_tree.specs.ProgramTree.{Item, Note, all_notes, items, leaf, lines_note}
 use Rattle.lp_tree.specs.declared.tree.Node.{Node}
 
 -- a part with these texts, and with these parts below it
@@ -30,6 +30,16 @@ leaf_if asked part = if asked then leaf part [] else []
 abbrev pub first_parts : List Node → List Item
 first_parts [] = []
 first_parts (n ∷ ns) = items n
+
+-- and their notes
+abbrev pub first_notes : List Node → List (List Note)
+first_notes [] = []
+first_notes (n ∷ ns) = all_notes n
+
+-- the notes of a part after it was given a comment line, where there is one
+abbrev pub with_line : List Note → Option (List ℕ) → List Note
+with_line old None = old
+with_line old (Some line) = lines_note (line ∷ []) ∷ []
 
 -- texts with ` | ` between each two
 abbrev pub barred : List (List ℕ) → List ℕ

@@ -3,7 +3,7 @@ use Rattle.std.specs.Prelude.{ℕ, Bool, ◌||◌, List, [], ◌∷◌, ◌++◌
 use Rattle.std.specs.List.{flat_map, list_any, position}
 use Rattle.lp_form.specs.declared.part.Part.{Part}
 use Rattle.lp_form.specs.declared.part.Part.TheVariants as part
-use Rattle.lp_tree.specs.ProgramTree.{Item, is_part, items}
+use Rattle.lp_tree.specs.ProgramTree.{Item, Note, all_notes, is_part, items}
 use Rattle.lp_tree.specs.declared.tree.Node.{Node}
 use Rattle.lp_build.specs.Built.{leaf_if, over, row}
 use Rattle.lp_build.specs.declared.frame.InternEntry.{InternEntry}
@@ -32,6 +32,15 @@ item_list (n ∷ ns) = over (items_part (n ∷ ns)) [] (flat_map items (n ∷ ns
 -- what is below a module: what stands before the items, and the items
 abbrev pub module_lines : List Node → List Item
 module_lines ns = flat_map items (take (items_place ns) ns) ++ item_list (drop (items_place ns) ns)
+
+-- the notes of the items of a module
+abbrev pub item_list_notes : List Node → List (List Note)
+item_list_notes [] = []
+item_list_notes (n ∷ ns) = [] ∷ flat_map all_notes (n ∷ ns)
+
+-- the notes of what is below a module
+abbrev pub module_notes : List Node → List (List Note)
+module_notes ns = flat_map all_notes (take (items_place ns) ns) ++ item_list_notes (drop (items_place ns) ns)
 
 -- a regular expression of the tokens, whose matches are kept or skipped
 abbrev pub intern_row : InternEntry → Item

@@ -1,9 +1,9 @@
 -- The struct that the driver asks.
 use Rattle.std.specs.Prelude.{ℕ, ◌==◌, ◌||◌, List, [], ◌∷◌, ◌++◌, codes, decimal, Option, Some, None, if◌then◌else◌}
 use Rattle.lp_form.specs.declared.part.Part.TheVariants as part
-use Rattle.lp_tree.specs.ProgramTree.{Item, leaf}
+use Rattle.lp_tree.specs.ProgramTree.{Item, Note, leaf}
 use Rattle.lp_tree.specs.declared.tree.Reduced.{Reduced}
-use Rattle.lp_build.specs.Built.{row}
+use Rattle.lp_build.specs.Built.{row, with_line}
 use Rattle.lp_build.specs.declared.machine.Field.{Field}
 use Rattle.lp_build.specs.declared.machine.SimulateArm.{SimulateArm}
 
@@ -26,3 +26,7 @@ simulated production (Some r) = row part.SimulateArm (decimal production ∷ dec
 
 abbrev pub simulate_row : SimulateArm → Item
 simulate_row a = simulated a.production a.reduced
+
+-- and its note
+abbrev pub simulate_note : SimulateArm → List Note
+simulate_note a = with_line [] a.note

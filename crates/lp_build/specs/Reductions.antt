@@ -2,9 +2,9 @@
 use Rattle.std.specs.Prelude.{ℕ, ◌+◌, ◌-◌, ◌==◌, nat_lt, Bool, List, [], ◌∷◌, ◌++◌, drop, decimal, Option, Some, None, if◌then◌else◌}
 use Rattle.std.specs.List.{flat_map}
 use Rattle.lp_form.specs.declared.part.Part.TheVariants as part
-use Rattle.lp_tree.specs.ProgramTree.{Item, is_part, items, leaf}
+use Rattle.lp_tree.specs.ProgramTree.{Item, Note, all_notes, is_part, items, leaf}
 use Rattle.lp_tree.specs.declared.tree.Node.{Node}
-use Rattle.lp_build.specs.Built.{first_parts, over, row}
+use Rattle.lp_build.specs.Built.{first_notes, first_parts, over, row}
 use Rattle.lp_build.specs.declared.reductions.Produced.{Produced}
 use Rattle.lp_build.specs.declared.reductions.ReduceArm.{ReduceArm}
 use Rattle.lp_build.specs.declared.reductions.ReduceCall.{ReduceCall}
@@ -15,6 +15,10 @@ body_in n = if is_part part.ReduceBody n then n ∷ [] else []
 
 abbrev pub but_body : Node → List Item
 but_body n = if is_part part.ReduceBody n then [] else items n
+
+-- the notes of a node's parts, if it isn't a body
+abbrev pub but_body_notes : Node → List (List Note)
+but_body_notes n = if is_part part.ReduceBody n then [] else all_notes n
 
 -- a production that calls its own function, or has the next body below it
 abbrev pub arm_of : ℕ → Option ReduceCall → List Node → List Item
@@ -36,6 +40,19 @@ bodies_after a bodies = left_by a.call bodies
 abbrev pub all_arms : List ReduceArm → List Node → List Item
 all_arms [] bodies = flat_map items bodies
 all_arms (a ∷ arms) bodies = arm_lines a bodies ++ all_arms arms (bodies_after a bodies)
+
+-- the notes of an arm: those of the body below it
+abbrev pub notes_of : Option ReduceCall → List Node → List (List Note)
+notes_of (Some call) bodies = [] ∷ []
+notes_of None bodies = [] ∷ first_notes bodies
+
+abbrev pub arm_notes : ReduceArm → List Node → List (List Note)
+arm_notes a bodies = notes_of a.call bodies
+
+-- those of the arms in their order, and then of the bodies that they leave
+abbrev pub all_arm_notes : List ReduceArm → List Node → List (List Note)
+all_arm_notes [] bodies = flat_map all_notes bodies
+all_arm_notes (a ∷ arms) bodies = arm_notes a bodies ++ all_arm_notes arms (bodies_after a bodies)
 
 -- the number of symbols is asserted where there are several
 abbrev pub assert_lines : ℕ → List Item

@@ -1,8 +1,8 @@
 -- Tables, and what looks them up.
 use Rattle.std.specs.Prelude.{ℕ, ◌==◌, List, [], ◌∷◌, ◌++◌, map, codes, decimal, if◌then◌else◌}
 use Rattle.lp_form.specs.declared.part.Part.TheVariants as part
-use Rattle.lp_tree.specs.ProgramTree.{Item, leaf}
-use Rattle.lp_build.specs.Built.{row, barred}
+use Rattle.lp_tree.specs.ProgramTree.{Item, Note, leaf}
+use Rattle.lp_build.specs.Built.{row, barred, with_line}
 use Rattle.lp_build.specs.declared.table.GotoArm.{GotoArm}
 use Rattle.lp_build.specs.declared.table.IntegerArm.{IntegerArm}
 use Rattle.lp_build.specs.declared.table.StateRange.{StateRange}
@@ -20,6 +20,10 @@ range_text r = if r.first == r.last then decimal r.first else decimal r.first ++
 
 abbrev pub goto_row : GotoArm → Item
 goto_row a = row part.GotoRange (barred (map range_text a.states.items) ∷ decimal a.target ∷ [])
+
+-- and its note
+abbrev pub goto_note : GotoArm → List Note
+goto_note a = with_line [] a.note
 
 -- the terminals of one variant: without captures by their numbers, else with their patterns
 abbrev pub symbol_row : List ℕ → List (List ℕ) → List ℕ → List ℕ → List Item

@@ -3,7 +3,7 @@
 ghost use Rattle.std.specs.Prelude.{◌≡◌, [], ◌∷◌, ◌++◌, map, IfOk, OnOk};
 ghost use Rattle.std.specs.List.{flat_map};
 ghost use Rattle.lp_build.specs.Actions.{action_part, body_lines, call_lines, call_part, outer_lines, outer_part, span_row};
-ghost use Rattle.lp_tree.specs.ProgramTree.{head, items, parts_below};
+ghost use Rattle.lp_tree.specs.ProgramTree.{all_notes, head, head_notes, items, notes_below, parts_below, unnoted};
 
 use super::{add_texts, bare, text_row};
 use lp_form::Part;
@@ -61,7 +61,8 @@ pub enum ActionBody<'t> {
 
 /// The call of one inlined action.
 fn inline_call<'t>(alloc: Global, call: InlineCall<'t>) -> Result<Node<'t>, AllocError>
-    ensures { IfOk result (λ n. items n ≡ call_lines call.entry) }
+    ensures items { IfOk result (λ n. items n ≡ call_lines call.entry) }
+    ensures notes { IfOk result (λ n. all_notes n ≡ unnoted (call_lines call.entry)) }
 {
     let InlineCall {
         number,
@@ -110,7 +111,8 @@ fn outer_part(wrapped: bool, type_arguments: &[Piece<'_>]) -> Part
 
 /// The outer call.
 fn outer_call<'t>(alloc: Global, call: OuterCall<'t>) -> Result<Node<'t>, AllocError>
-    ensures { IfOk result (λ n. items n ≡ outer_lines call.entry) }
+    ensures items { IfOk result (λ n. items n ≡ outer_lines call.entry) }
+    ensures notes { IfOk result (λ n. all_notes n ≡ unnoted (outer_lines call.entry)) }
 {
     let OuterCall {
         action,
@@ -134,6 +136,7 @@ fn inline_body<'t>(
 ) -> Result<Node<'t>, AllocError>
     ensures head { IfOk result (λ n. head n ≡ (Part.InlineBody, [], [])) }
     ensures below { IfOk result (λ n. parts_below n ≡ (map span_row spans.entry.items ++ flat_map call_lines calls.entry.items) ++ outer_lines outer.entry) }
+    ensures notes { IfOk result (λ n. all_notes n ≡ [] ∷ unnoted ((map span_row spans.entry.items ++ flat_map call_lines calls.entry.items) ++ outer_lines outer.entry)) }
 {
     let mut node = bare(alloc, Part::InlineBody)?;
     add_spans(alloc, &mut node, spans)?;
@@ -150,6 +153,8 @@ fn add_spans<'t>(
 ) -> Result<(), AllocError>
     ensures head { head node.new ≡ head node.old }
     ensures below { OnOk result (parts_below node.new ≡ parts_below node.old ++ map span_row spans.entry.items) }
+    ensures notes { head_notes node.new ≡ head_notes node.old }
+    ensures notes_below { OnOk result (notes_below node.new ≡ notes_below node.old ++ unnoted (map span_row spans.entry.items)) }
 {
     for span in spans {
         let InlineSpan { number, start, end } = span;
@@ -167,6 +172,8 @@ fn add_calls<'t>(
 ) -> Result<(), AllocError>
     ensures head { head node.new ≡ head node.old }
     ensures below { OnOk result (parts_below node.new ≡ parts_below node.old ++ flat_map call_lines calls.entry.items) }
+    ensures notes { head_notes node.new ≡ head_notes node.old }
+    ensures notes_below { OnOk result (notes_below node.new ≡ notes_below node.old ++ unnoted (flat_map call_lines calls.entry.items)) }
 {
     for call in calls {
         node.add(inline_call(alloc, call)?)?;
@@ -176,7 +183,8 @@ fn add_calls<'t>(
 
 /// The body of an action function.
 fn body_lines<'t>(alloc: Global, body: ActionBody<'t>) -> Result<Node<'t>, AllocError>
-    ensures { IfOk result (λ n. items n ≡ body_lines body.entry) }
+    ensures items { IfOk result (λ n. items n ≡ body_lines body.entry) }
+    ensures notes { IfOk result (λ n. all_notes n ≡ unnoted (body_lines body.entry)) }
 {
     match body {
         ActionBody::User { code } => text_row(alloc, Part::UserBody, code),
@@ -212,6 +220,7 @@ pub fn action_fn<'t>(
 ) -> Result<Node<'t>, AllocError>
     ensures head { IfOk result (λ n. head n ≡ (action_part body.entry unused_variables, [], [])) }
     ensures below { IfOk result (λ n. parts_below n ≡ flat_map items below.entry.items ++ body_lines body.entry) }
+    ensures notes { IfOk result (λ n. all_notes n ≡ [] ∷ (flat_map all_notes below.entry.items ++ unnoted (body_lines body.entry))) }
 {
     let mut node = bare(alloc, action_part(&body, unused_variables))?;
     node.add_all(below)?;

@@ -3,9 +3,9 @@
 ghost use Rattle.std.specs.Prelude.{◌≡◌, [], ◌∷◌, ◌++◌, map, drop, IfOk, OnOk};
 ghost use Rattle.std.specs.Fmt.{decimal};
 ghost use Rattle.std.specs.List.{flat_map};
-ghost use Rattle.lp_build.specs.Ascent.{but_header, check_lines, goto_lines, goto_rows, header_parts, location_lines, loop_lines, loop_part, return_row, shift_holes, shift_part, trial_row};
+ghost use Rattle.lp_build.specs.Ascent.{but_header, but_header_notes, check_lines, goto_lines, goto_notes, goto_row_notes, goto_rows, header_notes, header_parts, location_lines, loop_lines, loop_notes, loop_part, return_row, shift_holes, shift_part, trial_row};
 ghost use Rattle.lp_build.specs.Built.{leaf_if, text_if, text_rows};
-ghost use Rattle.lp_tree.specs.ProgramTree.{head, items, leaf, parts_below};
+ghost use Rattle.lp_tree.specs.ProgramTree.{all_notes, head, head_notes, items, leaf, lines_note, notes_below, parts_below, unnoted};
 
 use super::{add_if, add_next, add_numbers, add_text, bare, note_lines, text_row};
 use lp_form::Part;
@@ -23,7 +23,8 @@ pub fn start<'t>(
     phantom: Piece<'t>,
     nonterminal: Piece<'t>,
 ) -> Result<Node<'t>, AllocError>
-    ensures { IfOk result (λ n. items n ≡ leaf Part.Start (state_type.entry ∷ arguments.entry ∷ phantom.entry ∷ nonterminal.entry ∷ [])) }
+    ensures items { IfOk result (λ n. items n ≡ leaf Part.Start (state_type.entry ∷ arguments.entry ∷ phantom.entry ∷ nonterminal.entry ∷ [])) }
+    ensures notes { IfOk result (λ n. all_notes n ≡ [] ∷ []) }
 {
     let holes = vec![in alloc; state_type.into_piece(), arguments, phantom, nonterminal]?;
     Node::leaf(alloc, Part::Start, holes)
@@ -47,6 +48,7 @@ pub fn return_enum<'t>(
 ) -> Result<Node<'t>, AllocError>
     ensures head { IfOk result (λ n. head n ≡ (Part.ReturnEnum, type_parameters.entry ∷ [], [])) }
     ensures below { IfOk result (λ n. parts_below n ≡ text_if Part.WhereLine clauses.entry ++ map return_row variants.entry.items) }
+    ensures notes { IfOk result (λ n. all_notes n ≡ [] ∷ unnoted (text_if Part.WhereLine clauses.entry ++ map return_row variants.entry.items)) }
 {
     let mut node = text_row(alloc, Part::ReturnEnum, type_parameters)?;
     add_text(alloc, &mut node, Part::WhereLine, clauses)?;
@@ -79,6 +81,7 @@ pub fn state_fn<'t>(
 ) -> Result<Node<'t>, AllocError>
     ensures head { IfOk result (λ n. head n ≡ (Part.StateFn, triple.entry ∷ type_parameters.entry ∷ [], [])) }
     ensures below { IfOk result (λ n. parts_below n ≡ ((flat_map header_parts below.entry.items ++ leaf_if next_token Part.NextToken) ++ text_rows Part.SlotLine (map decimal made_optional.now)) ++ flat_map but_header below.entry.items) }
+    ensures notes { IfOk result (λ n. all_notes n ≡ (lines_note notes.entry.items ∷ []) ∷ (((flat_map header_notes below.entry.items ++ unnoted (leaf_if next_token Part.NextToken)) ++ unnoted (text_rows Part.SlotLine (map decimal made_optional.now))) ++ flat_map but_header_notes below.entry.items)) }
 {
     let mut node = Node::leaf(
         alloc,
@@ -103,6 +106,9 @@ fn add_by_header<'t>(
     ensures head { head node.new ≡ head node.old }
     ensures below { OnOk result (parts_below node.new ≡ parts_below node.old ++ flat_map header_parts children.entry.items) }
     ensures rest { OnOk result (parts_below rest.new ≡ parts_below rest.old ++ flat_map but_header children.entry.items) }
+    ensures notes { head_notes node.new ≡ head_notes node.old }
+    ensures notes_below { OnOk result (notes_below node.new ≡ notes_below node.old ++ flat_map header_notes children.entry.items) }
+    ensures rest_notes { OnOk result (notes_below rest.new ≡ notes_below rest.old ++ flat_map but_header_notes children.entry.items) }
 {
     for child in children {
         add_header_or_rest(node, rest, child)?;
@@ -119,6 +125,9 @@ fn add_header_or_rest<'t>(
     ensures head { head node.new ≡ head node.old }
     ensures below { OnOk result (parts_below node.new ≡ parts_below node.old ++ header_parts child.entry) }
     ensures rest { OnOk result (parts_below rest.new ≡ parts_below rest.old ++ but_header child.entry) }
+    ensures notes { head_notes node.new ≡ head_notes node.old }
+    ensures notes_below { OnOk result (notes_below node.new ≡ notes_below node.old ++ header_notes child.entry) }
+    ensures rest_notes { OnOk result (notes_below rest.new ≡ notes_below rest.old ++ but_header_notes child.entry) }
 {
     if child.is(Part::HeaderState) {
         node.add(child)
@@ -138,6 +147,7 @@ pub fn shift_arm<'t>(
 ) -> Result<Node<'t>, AllocError>
     ensures head { IfOk result (λ n. head n ≡ (shift_part names.entry, shift_holes pattern.entry symbol names.entry, [])) }
     ensures below { IfOk result (λ n. parts_below n ≡ flat_map items below.entry.items) }
+    ensures notes { IfOk result (λ n. all_notes n ≡ [] ∷ flat_map all_notes below.entry.items) }
 {
     let mut node = shift_line(alloc, pattern, symbol, names)?;
     node.add_all(below)?;
@@ -153,6 +163,7 @@ fn shift_line<'t>(
 ) -> Result<Node<'t>, AllocError>
     ensures head { IfOk result (λ n. head n ≡ (shift_part names.entry, shift_holes pattern.entry symbol names.entry, [])) }
     ensures below { IfOk result (λ n. parts_below n ≡ []) }
+    ensures notes { IfOk result (λ n. all_notes n ≡ [] ∷ []) }
 {
     let symbol = Piece::number(alloc, symbol)?;
     match names {
@@ -182,6 +193,7 @@ pub enum ErrorLocation {
 pub fn error_arm<'t>(alloc: Global, location: ErrorLocation) -> Result<Node<'t>, AllocError>
     ensures head { IfOk result (λ n. head n ≡ (Part.ErrorArm, [], [])) }
     ensures below { IfOk result (λ n. parts_below n ≡ location_lines location) }
+    ensures notes { IfOk result (λ n. all_notes n ≡ [] ∷ unnoted (location_lines location)) }
 {
     let mut node = bare(alloc, Part::ErrorArm)?;
     node.add(location_lines(alloc, location)?)?;
@@ -190,7 +202,8 @@ pub fn error_arm<'t>(alloc: Global, location: ErrorLocation) -> Result<Node<'t>,
 
 /// The lines that find the location.
 fn location_lines<'t>(alloc: Global, location: ErrorLocation) -> Result<Node<'t>, AllocError>
-    ensures { IfOk result (λ n. items n ≡ location_lines location) }
+    ensures items { IfOk result (λ n. items n ≡ location_lines location) }
+    ensures notes { IfOk result (λ n. all_notes n ≡ unnoted (location_lines location)) }
 {
     match location {
         ErrorLocation::Fixed { slot } => {
@@ -225,6 +238,7 @@ pub fn goto_loop<'t>(
 ) -> Result<Node<'t>, AllocError>
     ensures head { IfOk result (λ n. head n ≡ (loop_part arms.entry.items, [], [])) }
     ensures below { IfOk result (λ n. parts_below n ≡ loop_lines optional_top arms.entry.items other below.entry.items) }
+    ensures notes { IfOk result (λ n. all_notes n ≡ [] ∷ loop_notes optional_top arms.entry.items other below.entry.items) }
 {
     if arms.is_empty() {
         return bare(alloc, Part::GotoReturn);
@@ -244,6 +258,8 @@ fn add_check<'t>(
 ) -> Result<(), AllocError>
     ensures head { head node.new ≡ head node.old }
     ensures below { OnOk result (parts_below node.new ≡ parts_below node.old ++ check_lines optional_top) }
+    ensures notes { head_notes node.new ≡ head_notes node.old }
+    ensures notes_below { OnOk result (notes_below node.new ≡ notes_below node.old ++ unnoted (check_lines optional_top)) }
 {
     match optional_top {
         None => Ok(()),
@@ -260,6 +276,8 @@ fn add_gotos<'t>(
 ) -> Result<(), AllocError>
     ensures head { head node.new ≡ head node.old }
     ensures below { OnOk result (parts_below node.new ≡ parts_below node.old ++ goto_rows arms.entry.items transitions.entry.items) }
+    ensures notes { head_notes node.new ≡ head_notes node.old }
+    ensures notes_below { OnOk result (notes_below node.new ≡ notes_below node.old ++ goto_row_notes arms.entry.items transitions.entry.items) }
 {
     for arm in arms {
         node.add(goto_arm(alloc, arm, &mut transitions)?)?;
@@ -275,6 +293,7 @@ fn goto_arm<'t>(
 ) -> Result<Node<'t>, AllocError>
     ensures items { IfOk result (λ n. items n ≡ goto_lines arm.entry transitions.old.items) }
     ensures left { OnOk result (transitions.new.items ≡ drop 1 transitions.old.items) }
+    ensures notes { IfOk result (λ n. all_notes n ≡ goto_notes transitions.old.items) }
 {
     let GotoLoopArm {
         nonterminal,
@@ -301,6 +320,7 @@ pub fn ascent_simulate<'t>(
 ) -> Result<Node<'t>, AllocError>
     ensures head { IfOk result (λ n. head n ≡ (Part.AscentSimulate, state_type.entry ∷ [], [])) }
     ensures below { IfOk result (λ n. parts_below n ≡ map trial_row arms.now) }
+    ensures notes { IfOk result (λ n. all_notes n ≡ [] ∷ unnoted (map trial_row arms.now)) }
 {
     let mut node = text_row(alloc, Part::AscentSimulate, state_type.into_piece())?;
     for arm in arms {
@@ -311,7 +331,8 @@ pub fn ascent_simulate<'t>(
 
 /// One production of a trial.
 fn trial_row<'t>(alloc: Global, arm: &TrialArm) -> Result<Node<'t>, AllocError>
-    ensures { IfOk result (λ n. items n ≡ trial_row arm.now ∷ []) }
+    ensures items { IfOk result (λ n. items n ≡ trial_row arm.now ∷ []) }
+    ensures notes { IfOk result (λ n. all_notes n ≡ [] ∷ []) }
 {
     let production = Piece::number(alloc, arm.production)?;
     match arm.reduced {
@@ -327,14 +348,16 @@ fn trial_row<'t>(alloc: Global, arm: &TrialArm) -> Result<Node<'t>, AllocError>
 
 /// Form 46: whether a stack of states accepts a terminal.
 pub fn ascent_accepts<'t>(alloc: Global, state_type: Name<'t>) -> Result<Node<'t>, AllocError>
-    ensures { IfOk result (λ n. items n ≡ leaf Part.AscentAccepts (state_type.entry ∷ [])) }
+    ensures items { IfOk result (λ n. items n ≡ leaf Part.AscentAccepts (state_type.entry ∷ [])) }
+    ensures notes { IfOk result (λ n. all_notes n ≡ [] ∷ []) }
 {
     text_row(alloc, Part::AscentAccepts, state_type.into_piece())
 }
 
 /// Form 47: the terminals that a stack of states accepts.
 pub fn ascent_expected<'t>(alloc: Global, state_type: Name<'t>) -> Result<Node<'t>, AllocError>
-    ensures { IfOk result (λ n. items n ≡ leaf Part.AscentExpected (state_type.entry ∷ [])) }
+    ensures items { IfOk result (λ n. items n ≡ leaf Part.AscentExpected (state_type.entry ∷ [])) }
+    ensures notes { IfOk result (λ n. all_notes n ≡ [] ∷ []) }
 {
     text_row(alloc, Part::AscentExpected, state_type.into_piece())
 }

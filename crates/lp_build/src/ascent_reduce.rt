@@ -4,7 +4,7 @@ ghost use Rattle.std.specs.Prelude.{◌≡◌, [], ◌∷◌, ◌++◌, map, IfO
 ghost use Rattle.std.specs.Fmt.{decimal};
 ghost use Rattle.lp_build.specs.Ascent.{ascent_span, first_holes, first_part, last_token, more_tokens, reduction_lines};
 ghost use Rattle.lp_build.specs.Built.{leaf_if, text_rows};
-ghost use Rattle.lp_tree.specs.ProgramTree.{head, items, leaf, parts_below};
+ghost use Rattle.lp_tree.specs.ProgramTree.{all_notes, head, items, leaf, parts_below, unnoted};
 
 use super::{add_if, add_numbers, add_texts, bare, text_row};
 use lp_form::Part;
@@ -43,7 +43,8 @@ pub struct Reduction<'t> {
 
 /// The lines that find the span.
 fn span_lines<'t>(alloc: Global, span: AscentSpan<'t>) -> Result<Node<'t>, AllocError>
-    ensures { IfOk result (λ n. items n ≡ ascent_span span.entry) }
+    ensures items { IfOk result (λ n. items n ≡ ascent_span span.entry) }
+    ensures notes { IfOk result (λ n. all_notes n ≡ unnoted (ascent_span span.entry)) }
 {
     match span {
         AscentSpan::Symbols { first, last } => {
@@ -63,7 +64,8 @@ fn span_lines<'t>(alloc: Global, span: AscentSpan<'t>) -> Result<Node<'t>, Alloc
 
 /// The lines of a reduction after its tokens.
 fn reduce_lines<'t>(alloc: Global, reduction: Reduction<'t>) -> Result<Node<'t>, AllocError>
-    ensures { IfOk result (λ n. items n ≡ reduction_lines reduction.entry) }
+    ensures items { IfOk result (λ n. items n ≡ reduction_lines reduction.entry) }
+    ensures notes { IfOk result (λ n. all_notes n ≡ unnoted (reduction_lines reduction.entry)) }
 {
     let Reduction {
         takes,
@@ -91,7 +93,8 @@ fn call_line<'t>(
     type_arguments: Piece<'t>,
     arguments: Piece<'t>,
 ) -> Result<Node<'t>, AllocError>
-    ensures { IfOk result (λ n. items n ≡ leaf (if fallible then Part.AscentCallFallible else Part.AscentCall) (decimal action ∷ type_arguments.entry ∷ arguments.entry ∷ [])) }
+    ensures items { IfOk result (λ n. items n ≡ leaf (if fallible then Part.AscentCallFallible else Part.AscentCall) (decimal action ∷ type_arguments.entry ∷ arguments.entry ∷ [])) }
+    ensures notes { IfOk result (λ n. all_notes n ≡ [] ∷ []) }
 {
     let part = if fallible {
         Part::AscentCallFallible
@@ -116,6 +119,7 @@ pub fn reduce_arm<'t>(
 ) -> Result<Node<'t>, AllocError>
     ensures head { IfOk result (λ n. head n ≡ (first_part tokens.entry.items last.entry, first_holes tokens.entry.items last.entry, [])) }
     ensures below { IfOk result (λ n. parts_below n ≡ more_tokens tokens.entry.items last.entry ++ reduction_lines reduction.entry) }
+    ensures notes { IfOk result (λ n. all_notes n ≡ [] ∷ unnoted (more_tokens tokens.entry.items last.entry ++ reduction_lines reduction.entry)) }
 {
     let mut node = token_lines(alloc, tokens, last)?;
     node.add(reduce_lines(alloc, reduction)?)?;
@@ -123,7 +127,7 @@ pub fn reduce_arm<'t>(
 }
 
 /// The tokens of a reduction: those but the last, and the last one.
-#[tactic(auto, using(std::proofs::lemmas::Grind::common_steps, crate::proofs::Tokens::first_part_none, crate::proofs::Tokens::first_holes_none, crate::proofs::Tokens::more_tokens_none))]
+#[tactic(auto, using(std::proofs::lemmas::Grind::common_steps, crate::proofs::Tokens::first_part_none, crate::proofs::Tokens::first_holes_none, crate::proofs::Tokens::more_tokens_none, crate::proofs::Tokens::more_notes_none))]
 fn token_lines<'t>(
     alloc: Global,
     tokens: Vec<Piece<'t>>,
@@ -131,6 +135,7 @@ fn token_lines<'t>(
 ) -> Result<Node<'t>, AllocError>
     ensures head { IfOk result (λ n. head n ≡ (first_part tokens.entry.items last.entry, first_holes tokens.entry.items last.entry, [])) }
     ensures below { IfOk result (λ n. parts_below n ≡ more_tokens tokens.entry.items last.entry) }
+    ensures notes { IfOk result (λ n. all_notes n ≡ [] ∷ unnoted (more_tokens tokens.entry.items last.entry)) }
 {
     let mut tokens = VecDeque::from(tokens);
     match tokens.pop_front() {
@@ -143,6 +148,7 @@ fn token_lines<'t>(
 fn only_token<'t>(alloc: Global, token: Option<Piece<'t>>) -> Result<Node<'t>, AllocError>
     ensures head { IfOk result (λ n. head n ≡ (first_part [] token.entry, first_holes [] token.entry, [])) }
     ensures below { IfOk result (λ n. parts_below n ≡ []) }
+    ensures notes { IfOk result (λ n. all_notes n ≡ [] ∷ []) }
 {
     match token {
         Some(pattern) => text_row(alloc, Part::ReduceToken, pattern),
@@ -159,6 +165,7 @@ fn several_tokens<'t>(
 ) -> Result<Node<'t>, AllocError>
     ensures head { IfOk result (λ n. head n ≡ (Part.ReduceMany, first.entry ∷ [], [])) }
     ensures below { IfOk result (λ n. parts_below n ≡ text_rows Part.TokenRow between.entry.items ++ last_token last.entry) }
+    ensures notes { IfOk result (λ n. all_notes n ≡ [] ∷ unnoted (text_rows Part.TokenRow between.entry.items ++ last_token last.entry)) }
 {
     let mut node = text_row(alloc, Part::ReduceMany, first)?;
     add_texts(alloc, &mut node, Part::TokenRow, between)?;
@@ -168,7 +175,8 @@ fn several_tokens<'t>(
 
 /// The last of several tokens.
 fn last_token<'t>(alloc: Global, token: Option<Piece<'t>>) -> Result<Node<'t>, AllocError>
-    ensures { IfOk result (λ n. items n ≡ last_token token.entry) }
+    ensures items { IfOk result (λ n. items n ≡ last_token token.entry) }
+    ensures notes { IfOk result (λ n. all_notes n ≡ unnoted (last_token token.entry)) }
 {
     match token {
         Some(pattern) => text_row(alloc, Part::LastToken, pattern),
@@ -190,6 +198,7 @@ pub fn transition<'t>(
 ) -> Result<Node<'t>, AllocError>
     ensures head { IfOk result (λ n. head n ≡ (Part.Transition, decimal target ∷ arguments.entry ∷ symbols.entry ∷ phantom.entry ∷ [], [])) }
     ensures below { IfOk result (λ n. parts_below n ≡ text_rows Part.TakeLine (map decimal takes.now) ++ leaf_if returns Part.ReturnLine) }
+    ensures notes { IfOk result (λ n. all_notes n ≡ [] ∷ unnoted (text_rows Part.TakeLine (map decimal takes.now) ++ leaf_if returns Part.ReturnLine)) }
 {
     let target = Piece::number(alloc, target)?;
     let holes = vec![in alloc; target, arguments, symbols, phantom]?;

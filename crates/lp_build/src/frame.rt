@@ -3,8 +3,8 @@
 ghost use Rattle.std.specs.Prelude.{◌≡◌, ◌<◌, ◌≤◌, [], ◌∷◌, ◌++◌, length, map, not, IfOk, IfSome, OnOk, if◌then◌else◌};
 ghost use Rattle.std.specs.List.{flat_map, list_any, position};
 ghost use Rattle.lp_build.specs.Built.{over};
-ghost use Rattle.lp_build.specs.Frame.{hole_if, intern_row, is_before_items, item_list, items_part, items_place, module_lines, triple_holes, triple_part, white_space};
-ghost use Rattle.lp_tree.specs.ProgramTree.{head, items, leaf, parts_below, program_items};
+ghost use Rattle.lp_build.specs.Frame.{hole_if, intern_row, is_before_items, item_list, item_list_notes, items_part, items_place, module_lines, module_notes, triple_holes, triple_part, white_space};
+ghost use Rattle.lp_tree.specs.ProgramTree.{all_notes, head, head_notes, items, leaf, notes_below, parts_below, program_items, program_notes, unnoted};
 
 use super::{add_if, add_text, bare, text_row};
 use lp_form::Part;
@@ -22,6 +22,7 @@ pub fn program<'t>(
 ) -> Result<Program<'t>, AllocError>
     ensures prefix { IfOk result (λ p. p.prefix ≡ prefix.entry) }
     ensures parts { IfOk result (λ p. program_items p ≡ over Part.Program [] (flat_map items below.entry.items)) }
+    ensures notes { IfOk result (λ p. program_notes p ≡ [] ∷ flat_map all_notes below.entry.items) }
 {
     let mut node = bare(alloc, Part::Program)?;
     node.add_all(below)?;
@@ -32,21 +33,24 @@ pub fn program<'t>(
 
 /// Form 2: an attribute of the whole text, from `#![` to `]`.
 pub fn attribute<'t>(alloc: Global, text: Piece<'t>) -> Result<Node<'t>, AllocError>
-    ensures { IfOk result (λ n. items n ≡ leaf Part.Attribute (text.entry ∷ [])) }
+    ensures items { IfOk result (λ n. items n ≡ leaf Part.Attribute (text.entry ∷ [])) }
+    ensures notes { IfOk result (λ n. all_notes n ≡ [] ∷ []) }
 {
     text_row(alloc, Part::Attribute, text)
 }
 
 /// Form 3: a use, as it is printed between `use ` and `;`.
 pub fn use_line<'t>(alloc: Global, text: Piece<'t>) -> Result<Node<'t>, AllocError>
-    ensures { IfOk result (λ n. items n ≡ leaf Part.UseLine (text.entry ∷ [])) }
+    ensures items { IfOk result (λ n. items n ≡ leaf Part.UseLine (text.entry ∷ [])) }
+    ensures notes { IfOk result (λ n. all_notes n ≡ [] ∷ []) }
 {
     text_row(alloc, Part::UseLine, text)
 }
 
 /// Form 4: the uses that each module has.
 pub fn standard_uses<'t>(alloc: Global) -> Result<Node<'t>, AllocError>
-    ensures { IfOk result (λ n. items n ≡ leaf Part.StandardUses []) }
+    ensures items { IfOk result (λ n. items n ≡ leaf Part.StandardUses []) }
+    ensures notes { IfOk result (λ n. all_notes n ≡ [] ∷ []) }
 {
     bare(alloc, Part::StandardUses)
 }
@@ -60,6 +64,7 @@ pub fn parse_module<'t>(
 ) -> Result<Node<'t>, AllocError>
     ensures head { IfOk result (λ n. head n ≡ (Part.ParseModule, start.entry ∷ [], [])) }
     ensures below { IfOk result (λ n. parts_below n ≡ module_lines below.entry.items) }
+    ensures notes { IfOk result (λ n. all_notes n ≡ [] ∷ module_notes below.entry.items) }
 {
     let mut node = text_row(alloc, Part::ParseModule, start.into_piece())?;
     let mut front = below;
@@ -103,6 +108,8 @@ fn is_before_items(node: &Node<'_>) -> bool
 fn add_items<'t>(alloc: Global, node: &mut Node<'t>, nodes: Vec<Node<'t>>) -> Result<(), AllocError>
     ensures head { head node.new ≡ head node.old }
     ensures below { OnOk result (parts_below node.new ≡ parts_below node.old ++ item_list nodes.entry.items) }
+    ensures notes { head_notes node.new ≡ head_notes node.old }
+    ensures notes_below { OnOk result (notes_below node.new ≡ notes_below node.old ++ item_list_notes nodes.entry.items) }
 {
     if nodes.is_empty() {
         return Ok(());
@@ -131,7 +138,8 @@ fn items_part(nodes: &[Node<'_>]) -> Part
 
 /// Form 6: where the token type, or the trait of the tokens, comes from.
 pub fn token_use<'t>(alloc: Global, interned: bool) -> Result<Node<'t>, AllocError>
-    ensures { IfOk result (λ n. items n ≡ leaf (if interned then Part.TokenUseInterned else Part.TokenUsePlain) []) }
+    ensures items { IfOk result (λ n. items n ≡ leaf (if interned then Part.TokenUseInterned else Part.TokenUsePlain) []) }
+    ensures notes { IfOk result (λ n. all_notes n ≡ [] ∷ []) }
 {
     if interned {
         bare(alloc, Part::TokenUseInterned)
@@ -148,7 +156,8 @@ pub fn reexport<'t>(
     start: Name<'t>,
     public_name: Name<'t>,
 ) -> Result<Node<'t>, AllocError>
-    ensures { IfOk result (λ n. items n ≡ leaf Part.Reexport (visibility.entry ∷ start.entry ∷ public_name.entry ∷ [])) }
+    ensures items { IfOk result (λ n. items n ≡ leaf Part.Reexport (visibility.entry ∷ start.entry ∷ public_name.entry ∷ [])) }
+    ensures notes { IfOk result (λ n. all_notes n ≡ [] ∷ []) }
 {
     Node::leaf(
         alloc,
@@ -173,6 +182,7 @@ pub fn token_module<'t>(
 ) -> Result<Node<'t>, AllocError>
     ensures head { IfOk result (λ n. head n ≡ (Part.TokenModule, [], [])) }
     ensures below { IfOk result (λ n. parts_below n ≡ (flat_map items below.entry.items ++ map intern_row entries.entry.items) ++ white_space entries.entry.items) }
+    ensures notes { IfOk result (λ n. all_notes n ≡ [] ∷ ((flat_map all_notes below.entry.items ++ unnoted (map intern_row entries.entry.items)) ++ unnoted (white_space entries.entry.items))) }
 {
     let mut node = bare(alloc, Part::TokenModule)?;
     node.add_all(below)?;
@@ -197,6 +207,8 @@ fn add_entries<'t>(
 ) -> Result<(), AllocError>
     ensures head { head node.new ≡ head node.old }
     ensures below { OnOk result (parts_below node.new ≡ parts_below node.old ++ map intern_row entries.entry.items) }
+    ensures notes { head_notes node.new ≡ head_notes node.old }
+    ensures notes_below { OnOk result (notes_below node.new ≡ notes_below node.old ++ unnoted (map intern_row entries.entry.items)) }
 {
     for entry in entries {
         let InternEntry { literal, skip } = entry;
@@ -231,7 +243,8 @@ pub fn to_triple<'t>(
     parse_error: Piece<'t>,
     implementations: Triples<'t>,
 ) -> Result<Node<'t>, AllocError>
-    ensures { IfOk result (λ n. items n ≡ leaf (triple_part clauses.entry implementations.entry) (visibility.entry ∷ type_parameters.entry ∷ (hole_if clauses.entry ++ (triple.entry ∷ parse_error.entry ∷ triple_holes implementations.entry)))) }
+    ensures items { IfOk result (λ n. items n ≡ leaf (triple_part clauses.entry implementations.entry) (visibility.entry ∷ type_parameters.entry ∷ (hole_if clauses.entry ++ (triple.entry ∷ parse_error.entry ∷ triple_holes implementations.entry)))) }
+    ensures notes { IfOk result (λ n. all_notes n ≡ [] ∷ []) }
 {
     let part = triple_part(&clauses, &implementations);
     let mut holes = vec![in alloc; visibility, type_parameters]?;

@@ -4,7 +4,7 @@ ghost use Rattle.std.specs.Prelude.{◌≡◌, [], ◌∷◌, ◌++◌, IfOk, On
 ghost use Rattle.std.specs.List.{flat_map, list_any};
 ghost use Rattle.lp_build.specs.Built.{text_rows};
 ghost use Rattle.lp_build.specs.Functions.{clause_lines, name_holes, name_part, parser_part, result_line};
-ghost use Rattle.lp_tree.specs.ProgramTree.{head, is_part, items, leaf, parts_below};
+ghost use Rattle.lp_tree.specs.ProgramTree.{all_notes, head, head_notes, is_part, items, leaf, notes_below, parts_below, unnoted};
 
 use super::{add_texts, bare, text_row};
 use lp_form::Part;
@@ -36,6 +36,7 @@ pub enum FunctionName<'t> {
 fn header_line<'t>(alloc: Global, name: FunctionName<'t>) -> Result<Node<'t>, AllocError>
     ensures head { IfOk result (λ n. head n ≡ (name_part name.entry, name_holes name.entry, [])) }
     ensures below { IfOk result (λ n. parts_below n ≡ []) }
+    ensures notes { IfOk result (λ n. all_notes n ≡ [] ∷ []) }
 {
     match name {
         FunctionName::Parse { visibility } => text_row(alloc, Part::HeaderParse, visibility),
@@ -69,6 +70,7 @@ pub fn header<'t>(
 ) -> Result<Node<'t>, AllocError>
     ensures head { IfOk result (λ n. head n ≡ (name_part name.entry, name_holes name.entry, [])) }
     ensures below { IfOk result (λ n. parts_below n ≡ ((text_rows Part.TypeRow type_parameters.entry.items ++ text_rows Part.ParameterRow parameters.entry.items) ++ result_line answer.entry) ++ clause_lines clauses.entry.items) }
+    ensures notes { IfOk result (λ n. all_notes n ≡ [] ∷ unnoted (((text_rows Part.TypeRow type_parameters.entry.items ++ text_rows Part.ParameterRow parameters.entry.items) ++ result_line answer.entry) ++ clause_lines clauses.entry.items)) }
 {
     let mut node = header_line(alloc, name)?;
     add_texts(alloc, &mut node, Part::TypeRow, type_parameters)?;
@@ -80,7 +82,8 @@ pub fn header<'t>(
 
 /// The line of a result; `()` prints none.
 fn result_line<'t>(alloc: Global, answer: Piece<'t>) -> Result<Node<'t>, AllocError>
-    ensures { IfOk result (λ n. items n ≡ result_line answer.entry) }
+    ensures items { IfOk result (λ n. items n ≡ result_line answer.entry) }
+    ensures notes { IfOk result (λ n. all_notes n ≡ unnoted (result_line answer.entry)) }
 {
     if answer.as_str() == "()" {
         bare(alloc, Part::ResultUnit)
@@ -97,6 +100,8 @@ fn add_clauses<'t>(
 ) -> Result<(), AllocError>
     ensures head { head node.new ≡ head node.old }
     ensures below { OnOk result (parts_below node.new ≡ parts_below node.old ++ clause_lines clauses.entry.items) }
+    ensures notes { head_notes node.new ≡ head_notes node.old }
+    ensures notes_below { OnOk result (notes_below node.new ≡ notes_below node.old ++ unnoted (clause_lines clauses.entry.items)) }
 {
     if clauses.is_empty() {
         return Ok(());
@@ -117,6 +122,7 @@ pub fn parser<'t>(
 ) -> Result<Node<'t>, AllocError>
     ensures head { IfOk result (λ n. head n ≡ (parser_part (list_any (is_part Part.Start) below.entry.items) interned, visibility.entry ∷ public_name.entry ∷ [], [])) }
     ensures below { IfOk result (λ n. parts_below n ≡ flat_map items below.entry.items) }
+    ensures notes { IfOk result (λ n. all_notes n ≡ [] ∷ flat_map all_notes below.entry.items) }
 {
     let ascent = is_by_ascent(below.as_slice());
     let part = parser_part(ascent, interned);
@@ -150,7 +156,8 @@ fn parser_part(ascent: bool, interned: bool) -> Part
 
 /// Form 10: where the tokens come from.
 pub fn token_source<'t>(alloc: Global, interned: bool) -> Result<Node<'t>, AllocError>
-    ensures { IfOk result (λ n. items n ≡ leaf (if interned then Part.TokenSourceInterned else Part.TokenSourcePlain) []) }
+    ensures items { IfOk result (λ n. items n ≡ leaf (if interned then Part.TokenSourceInterned else Part.TokenSourcePlain) []) }
+    ensures notes { IfOk result (λ n. all_notes n ≡ [] ∷ []) }
 {
     if interned {
         bare(alloc, Part::TokenSourceInterned)

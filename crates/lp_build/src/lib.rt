@@ -14,8 +14,8 @@ mod table;
 ghost use Rattle.std.specs.Prelude.{◌≡◌, [], ◌∷◌, ◌++◌, map, drop, codes, string_bytes, IfOk, OnOk};
 ghost use Rattle.std.specs.Fmt.{decimal};
 ghost use Rattle.std.specs.List.{flat_map};
-ghost use Rattle.lp_tree.specs.ProgramTree.{head, items, leaf, parts_below};
-ghost use Rattle.lp_build.specs.Built.{barred, first_parts, leaf_if, text_if, text_rows};
+ghost use Rattle.lp_tree.specs.ProgramTree.{all_notes, head, head_notes, items, leaf, lines_note, notes_below, parts_below, unnoted};
+ghost use Rattle.lp_build.specs.Built.{barred, first_notes, first_parts, leaf_if, text_if, text_rows, with_line};
 
 pub use action::{ActionBody, InlineCall, InlineSpan, OuterCall, action_fn};
 pub use ascent::{
@@ -52,6 +52,7 @@ fn text_row<'t>(alloc: Global, part: Part, text: Piece<'t>) -> Result<Node<'t>, 
     ensures items { IfOk result (λ n. items n ≡ leaf part (text.entry ∷ [])) }
     ensures head { IfOk result (λ n. head n ≡ (part, text.entry ∷ [], [])) }
     ensures below { IfOk result (λ n. parts_below n ≡ []) }
+    ensures notes { IfOk result (λ n. all_notes n ≡ [] ∷ []) }
 {
     Node::leaf(alloc, part, vec![in alloc; text]?)
 }
@@ -65,6 +66,8 @@ fn add_texts<'t>(
 ) -> Result<(), AllocError>
     ensures head { head node.new ≡ head node.old }
     ensures below { OnOk result (parts_below node.new ≡ parts_below node.old ++ text_rows part texts.entry.items) }
+    ensures notes { head_notes node.new ≡ head_notes node.old }
+    ensures notes_below { OnOk result (notes_below node.new ≡ notes_below node.old ++ unnoted (text_rows part texts.entry.items)) }
 {
     for text in texts {
         node.add(text_row(alloc, part, text)?)?;
@@ -81,6 +84,8 @@ fn add_names<'t>(
 ) -> Result<(), AllocError>
     ensures head { head node.new ≡ head node.old }
     ensures below { OnOk result (parts_below node.new ≡ parts_below node.old ++ text_rows part names.entry.items) }
+    ensures notes { head_notes node.new ≡ head_notes node.old }
+    ensures notes_below { OnOk result (notes_below node.new ≡ notes_below node.old ++ unnoted (text_rows part names.entry.items)) }
 {
     for name in names {
         node.add(text_row(alloc, part, name.into_piece())?)?;
@@ -97,6 +102,8 @@ fn add_numbers<'t>(
 ) -> Result<(), AllocError>
     ensures head { head node.new ≡ head node.old }
     ensures below { OnOk result (parts_below node.new ≡ parts_below node.old ++ text_rows part (map decimal numbers.now)) }
+    ensures notes { head_notes node.new ≡ head_notes node.old }
+    ensures notes_below { OnOk result (notes_below node.new ≡ notes_below node.old ++ unnoted (text_rows part (map decimal numbers.now))) }
 {
     for number in numbers {
         node.add(text_row(alloc, part, Piece::number(alloc, *number)?)?)?;
@@ -109,6 +116,7 @@ fn bare<'t>(alloc: Global, part: Part) -> Result<Node<'t>, AllocError>
     ensures items { IfOk result (λ n. items n ≡ leaf part []) }
     ensures head { IfOk result (λ n. head n ≡ (part, [], [])) }
     ensures below { IfOk result (λ n. parts_below n ≡ []) }
+    ensures notes { IfOk result (λ n. all_notes n ≡ [] ∷ []) }
 {
     Node::leaf(alloc, part, Vec::new(alloc))
 }
@@ -122,6 +130,8 @@ fn add_text<'t>(
 ) -> Result<(), AllocError>
     ensures head { head node.new ≡ head node.old }
     ensures below { OnOk result (parts_below node.new ≡ parts_below node.old ++ text_if part text.entry) }
+    ensures notes { head_notes node.new ≡ head_notes node.old }
+    ensures notes_below { OnOk result (notes_below node.new ≡ notes_below node.old ++ unnoted (text_if part text.entry)) }
 {
     match text {
         None => Ok(()),
@@ -133,6 +143,8 @@ fn add_text<'t>(
 fn add_if<'t>(alloc: Global, node: &mut Node<'t>, asked: bool, part: Part) -> Result<(), AllocError>
     ensures head { head node.new ≡ head node.old }
     ensures below { OnOk result (parts_below node.new ≡ parts_below node.old ++ leaf_if asked part) }
+    ensures notes { head_notes node.new ≡ head_notes node.old }
+    ensures notes_below { OnOk result (notes_below node.new ≡ notes_below node.old ++ unnoted (leaf_if asked part)) }
 {
     if asked {
         node.add(bare(alloc, part)?)?;
@@ -141,11 +153,13 @@ fn add_if<'t>(alloc: Global, node: &mut Node<'t>, asked: bool, part: Part) -> Re
 }
 
 /// Takes the first of the nodes, if there is one, and puts it below the node.
-#[tactic(auto, using(std::proofs::lemmas::Grind::common_steps, crate::proofs::Nodes::first_parts_none))]
+#[tactic(auto, using(std::proofs::lemmas::Grind::common_steps, crate::proofs::Nodes::first_parts_none, crate::proofs::Nodes::first_notes_none))]
 fn add_next<'t>(node: &mut Node<'t>, nodes: &mut VecDeque<Node<'t>>) -> Result<(), AllocError>
     ensures head { head node.new ≡ head node.old }
     ensures below { OnOk result (parts_below node.new ≡ parts_below node.old ++ first_parts nodes.old.items) }
     ensures left { nodes.new.items ≡ drop 1 nodes.old.items }
+    ensures notes { head_notes node.new ≡ head_notes node.old }
+    ensures notes_below { OnOk result (notes_below node.new ≡ notes_below node.old ++ first_notes nodes.old.items) }
 {
     match nodes.pop_front() {
         None => Ok(()),
@@ -161,6 +175,8 @@ fn note_lines<'t>(
 ) -> Result<(), AllocError>
     ensures head { head node.new ≡ head node.old }
     ensures below { parts_below node.new ≡ parts_below node.old }
+    ensures notes { OnOk result (head_notes node.new ≡ lines_note lines.entry.items ∷ []) }
+    ensures notes_below { notes_below node.new ≡ notes_below node.old }
 {
     node.note(alloc, lines)
 }
@@ -173,6 +189,8 @@ fn note_if<'t>(
 ) -> Result<(), AllocError>
     ensures head { head node.new ≡ head node.old }
     ensures below { parts_below node.new ≡ parts_below node.old }
+    ensures notes { OnOk result (head_notes node.new ≡ with_line (head_notes node.old) note.entry) }
+    ensures notes_below { notes_below node.new ≡ notes_below node.old }
 {
     match note {
         None => Ok(()),

@@ -3,10 +3,10 @@
 ghost use Rattle.std.specs.Prelude.{◌≡◌, [], ◌∷◌, ◌++◌, map, IfOk};
 ghost use Rattle.std.specs.List.{flat_map};
 ghost use Rattle.lp_build.specs.Built.{text_rows};
-ghost use Rattle.lp_build.specs.Machine.{field_row, last_terminal, recovery_lines, simulate_row};
-ghost use Rattle.lp_tree.specs.ProgramTree.{head, items, parts_below};
+ghost use Rattle.lp_build.specs.Machine.{field_row, last_terminal, recovery_lines, simulate_note, simulate_row};
+ghost use Rattle.lp_tree.specs.ProgramTree.{all_notes, head, items, parts_below, unnoted};
 
-use super::{add_names, bare, text_row};
+use super::{add_names, bare, note_if, text_row};
 use lp_form::Part;
 use lp_tree::piece::{Name, Piece};
 use lp_tree::tree::{Node, Reduced};
@@ -31,6 +31,7 @@ pub fn machine_struct<'t>(
 ) -> Result<Node<'t>, AllocError>
     ensures head { IfOk result (λ n. head n ≡ (Part.MachineStruct, type_parameters.entry ∷ clauses.entry ∷ phantom.entry ∷ [], [])) }
     ensures below { IfOk result (λ n. parts_below n ≡ map field_row fields.entry.items) }
+    ensures notes { IfOk result (λ n. all_notes n ≡ [] ∷ unnoted (map field_row fields.entry.items)) }
 {
     let holes = vec![in alloc; type_parameters, clauses, phantom]?;
     let mut node = Node::leaf(alloc, Part::MachineStruct, holes)?;
@@ -60,7 +61,8 @@ fn last_terminal<'t>(alloc: Global, terminals: u64) -> Result<Piece<'t>, AllocEr
 
 /// The two methods on error recovery.
 fn recovery_methods<'t>(alloc: Global, recovery: Option<Name<'t>>) -> Result<Node<'t>, AllocError>
-    ensures { IfOk result (λ n. items n ≡ recovery_lines recovery.entry) }
+    ensures items { IfOk result (λ n. items n ≡ recovery_lines recovery.entry) }
+    ensures notes { IfOk result (λ n. all_notes n ≡ unnoted (recovery_lines recovery.entry)) }
 {
     match recovery {
         Some(variant) => text_row(alloc, Part::RecoveryOn, variant.into_piece()),
@@ -89,6 +91,7 @@ pub fn machine_impl<'t>(
 ) -> Result<Node<'t>, AllocError>
     ensures head { IfOk result (λ n. head n ≡ (Part.MachineImpl, type_parameters.entry ∷ clauses.entry ∷ location.entry ∷ error.entry ∷ token.entry ∷ symbol_parameters.entry ∷ success.entry ∷ state_type.entry ∷ phantom.entry ∷ last_terminal terminals ∷ [], [])) }
     ensures below { IfOk result (λ n. parts_below n ≡ recovery_lines recovery.entry ++ text_rows Part.SelfRow parameters.entry.items) }
+    ensures notes { IfOk result (λ n. all_notes n ≡ [] ∷ unnoted (recovery_lines recovery.entry ++ text_rows Part.SelfRow parameters.entry.items)) }
 {
     let last = last_terminal(alloc, terminals)?;
     let state_type = state_type.into_piece();
@@ -114,7 +117,8 @@ pub struct SimulateArm<'t> {
 
 /// One arm of `simulate_reduce`.
 fn simulate_row<'t>(alloc: Global, arm: SimulateArm<'t>) -> Result<Node<'t>, AllocError>
-    ensures { IfOk result (λ n. items n ≡ simulate_row arm.entry ∷ []) }
+    ensures items { IfOk result (λ n. items n ≡ simulate_row arm.entry ∷ []) }
+    ensures notes { IfOk result (λ n. all_notes n ≡ simulate_note arm.entry ∷ []) }
 {
     let SimulateArm {
         production,
@@ -131,10 +135,7 @@ fn simulate_row<'t>(alloc: Global, arm: SimulateArm<'t>) -> Result<Node<'t>, All
             Node::leaf(alloc, Part::SimulateArm, holes)?
         }
     };
-    match note {
-        Some(note) => node.note(alloc, vec![in alloc; note]?)?,
-        None => {}
-    }
+    note_if(alloc, &mut node, note)?;
     Ok(node)
 }
 
@@ -146,6 +147,7 @@ pub fn simulate_reduce<'t>(
 ) -> Result<Node<'t>, AllocError>
     ensures head { IfOk result (λ n. head n ≡ (Part.SimulateReduce, [], [])) }
     ensures below { IfOk result (λ n. parts_below n ≡ flat_map items below.entry.items ++ map simulate_row arms.entry.items) }
+    ensures notes { IfOk result (λ n. all_notes n ≡ [] ∷ (flat_map all_notes below.entry.items ++ map simulate_note arms.entry.items)) }
 {
     let mut node = bare(alloc, Part::SimulateReduce)?;
     node.add_all(below)?;
@@ -163,6 +165,7 @@ pub fn drive<'t>(
 ) -> Result<Node<'t>, AllocError>
     ensures head { IfOk result (λ n. head n ≡ (Part.Drive, phantom.entry ∷ [], [])) }
     ensures below { IfOk result (λ n. parts_below n ≡ text_rows Part.DriveRow parameters.entry.items) }
+    ensures notes { IfOk result (λ n. all_notes n ≡ [] ∷ unnoted (text_rows Part.DriveRow parameters.entry.items)) }
 {
     let mut node = text_row(alloc, Part::Drive, phantom)?;
     add_names(alloc, &mut node, Part::DriveRow, parameters)?;
@@ -177,6 +180,7 @@ pub fn accepts<'t>(
 ) -> Result<Node<'t>, AllocError>
     ensures head { IfOk result (λ n. head n ≡ (Part.Accepts, phantom.entry ∷ [], [])) }
     ensures below { IfOk result (λ n. parts_below n ≡ flat_map items below.entry.items) }
+    ensures notes { IfOk result (λ n. all_notes n ≡ [] ∷ flat_map all_notes below.entry.items) }
 {
     let mut node = text_row(alloc, Part::Accepts, phantom)?;
     node.add_all(below)?;

@@ -2,9 +2,9 @@
 
 ghost use Rattle.std.specs.Prelude.{◌≡◌, [], ◌∷◌, ◌++◌, length, IfOk, OnOk};
 ghost use Rattle.std.specs.List.{flat_map};
-ghost use Rattle.lp_build.specs.Built.{text_if, text_rows};
-ghost use Rattle.lp_build.specs.Reductions.{all_arms, arm_lines, assert_lines, bodies_after, body_in, but_body, call_of, outcome_of, pop_lines, span_of};
-ghost use Rattle.lp_tree.specs.ProgramTree.{head, items, leaf, parts_below};
+ghost use Rattle.lp_build.specs.Built.{text_if, text_rows, with_line};
+ghost use Rattle.lp_build.specs.Reductions.{all_arm_notes, all_arms, arm_lines, arm_notes, assert_lines, bodies_after, body_in, but_body, but_body_notes, call_of, outcome_of, pop_lines, span_of};
+ghost use Rattle.lp_tree.specs.ProgramTree.{all_notes, head, head_notes, items, leaf, notes_below, parts_below, unnoted};
 
 use super::{add_next, add_text, add_texts, bare, note_if, text_row};
 use lp_form::Part;
@@ -38,6 +38,8 @@ fn add_arm<'t>(
     ensures head { head node.new ≡ head node.old }
     ensures below { OnOk result (parts_below node.new ≡ parts_below node.old ++ arm_lines arm.entry bodies.old.items) }
     ensures left { OnOk result (bodies.new.items ≡ bodies_after arm.entry bodies.old.items) }
+    ensures notes { head_notes node.new ≡ head_notes node.old }
+    ensures notes_below { OnOk result (notes_below node.new ≡ notes_below node.old ++ arm_notes arm.entry bodies.old.items) }
 {
     let ReduceArm { production, call } = arm;
     let production = Piece::number(alloc, production)?;
@@ -64,6 +66,8 @@ fn add_arms<'t>(
 ) -> Result<(), AllocError>
     ensures head { head node.new ≡ head node.old }
     ensures below { OnOk result (parts_below node.new ≡ parts_below node.old ++ all_arms arms.entry.items bodies.entry.items) }
+    ensures notes { head_notes node.new ≡ head_notes node.old }
+    ensures notes_below { OnOk result (notes_below node.new ≡ notes_below node.old ++ all_arm_notes arms.entry.items bodies.entry.items) }
 {
     for arm in arms {
         add_arm(alloc, node, arm, &mut bodies)?;
@@ -80,6 +84,8 @@ fn add_or_keep<'t>(
     ensures head { head node.new ≡ head node.old }
     ensures below { OnOk result (parts_below node.new ≡ parts_below node.old ++ but_body child.entry) }
     ensures bodies { OnOk result (bodies.new.items ≡ bodies.old.items ++ body_in child.entry) }
+    ensures notes { head_notes node.new ≡ head_notes node.old }
+    ensures notes_below { OnOk result (notes_below node.new ≡ notes_below node.old ++ but_body_notes child.entry) }
 {
     if child.is(Part::ReduceBody) {
         bodies.push(child)?;
@@ -98,6 +104,8 @@ fn add_but_bodies<'t>(
     ensures head { head node.new ≡ head node.old }
     ensures below { OnOk result (parts_below node.new ≡ parts_below node.old ++ flat_map but_body children.entry.items) }
     ensures bodies { IfOk result (λ v. v.items ≡ flat_map body_in children.entry.items) }
+    ensures notes { head_notes node.new ≡ head_notes node.old }
+    ensures notes_below { OnOk result (notes_below node.new ≡ notes_below node.old ++ flat_map but_body_notes children.entry.items) }
 {
     let mut bodies = Vec::new(alloc);
     for child in children {
@@ -115,6 +123,7 @@ pub fn reduce<'t>(
 ) -> Result<Node<'t>, AllocError>
     ensures head { IfOk result (λ n. head n ≡ (Part.Reduce, [], [])) }
     ensures below { IfOk result (λ n. parts_below n ≡ flat_map but_body below.entry.items ++ all_arms arms.entry.items (flat_map body_in below.entry.items)) }
+    ensures notes { IfOk result (λ n. all_notes n ≡ [] ∷ (flat_map but_body_notes below.entry.items ++ all_arm_notes arms.entry.items (flat_map body_in below.entry.items))) }
 {
     let mut node = bare(alloc, Part::Reduce)?;
     let bodies = add_but_bodies(alloc, &mut node, below)?;
@@ -133,6 +142,8 @@ pub struct Produced<'t> {
 fn add_assert<'t>(alloc: Global, node: &mut Node<'t>, symbols: usize) -> Result<(), AllocError>
     ensures head { head node.new ≡ head node.old }
     ensures below { OnOk result (parts_below node.new ≡ parts_below node.old ++ assert_lines symbols) }
+    ensures notes { head_notes node.new ≡ head_notes node.old }
+    ensures notes_below { OnOk result (notes_below node.new ≡ notes_below node.old ++ unnoted (assert_lines symbols)) }
 {
     if symbols > 1 {
         let count = Piece::number(alloc, symbols as u64)?;
@@ -142,7 +153,7 @@ fn add_assert<'t>(alloc: Global, node: &mut Node<'t>, symbols: usize) -> Result<
 }
 
 /// Puts the lines below the node that pop the symbols, the last one first.
-#[tactic(auto, using(std::proofs::lemmas::Grind::common_steps, crate::proofs::Pops::pops_last, crate::proofs::Pops::pops_more))]
+#[tactic(auto, using(std::proofs::lemmas::Grind::common_steps, crate::proofs::Pops::pops_last, crate::proofs::Pops::pops_more, crate::proofs::Pops::pops_noted))]
 fn add_pops<'t>(
     alloc: Global,
     node: &mut Node<'t>,
@@ -150,6 +161,8 @@ fn add_pops<'t>(
 ) -> Result<(), AllocError>
     ensures head { head node.new ≡ head node.old }
     ensures below { OnOk result (parts_below node.new ≡ parts_below node.old ++ pop_lines 0 variants.entry.items) }
+    ensures notes { head_notes node.new ≡ head_notes node.old }
+    ensures notes_below { OnOk result (notes_below node.new ≡ notes_below node.old ++ unnoted (pop_lines 0 variants.entry.items)) }
 {
     while let Some(variant) = variants.pop() {
         let number = Piece::number(alloc, variants.len() as u64)?;
@@ -161,7 +174,8 @@ fn add_pops<'t>(
 
 /// The lines that find the span of so many symbols.
 fn span_lines<'t>(alloc: Global, symbols: usize) -> Result<Node<'t>, AllocError>
-    ensures { IfOk result (λ n. items n ≡ span_of symbols) }
+    ensures items { IfOk result (λ n. items n ≡ span_of symbols) }
+    ensures notes { IfOk result (λ n. all_notes n ≡ unnoted (span_of symbols)) }
 {
     if symbols == 0 {
         return bare(alloc, Part::SpanEmpty);
@@ -177,7 +191,8 @@ fn outcome_lines<'t>(
     symbols: usize,
     produced: Option<Produced<'t>>,
 ) -> Result<Node<'t>, AllocError>
-    ensures { IfOk result (λ n. items n ≡ outcome_of symbols produced.entry) }
+    ensures items { IfOk result (λ n. items n ≡ outcome_of symbols produced.entry) }
+    ensures notes { IfOk result (λ n. all_notes n ≡ unnoted (outcome_of symbols produced.entry)) }
 {
     match produced {
         None => bare(alloc, Part::OutcomeStart),
@@ -210,6 +225,7 @@ pub fn reduce_body<'t>(
 ) -> Result<Node<'t>, AllocError>
     ensures head { IfOk result (λ n. head n ≡ (Part.ReduceBody, [], [])) }
     ensures below { let symbols = length variants.entry.items in IfOk result (λ n. parts_below n ≡ (((assert_lines symbols ++ pop_lines 0 variants.entry.items) ++ span_of symbols) ++ call_of fallible action type_arguments.entry arguments.entry) ++ outcome_of symbols produced.entry) }
+    ensures notes { let symbols = length variants.entry.items in IfOk result (λ n. all_notes n ≡ with_line [] note.entry ∷ unnoted ((((assert_lines symbols ++ pop_lines 0 variants.entry.items) ++ span_of symbols) ++ call_of fallible action type_arguments.entry arguments.entry) ++ outcome_of symbols produced.entry)) }
 {
     let symbols = variants.len();
     let mut node = bare(alloc, Part::ReduceBody)?;
@@ -230,7 +246,8 @@ fn call_line<'t>(
     type_arguments: Piece<'t>,
     arguments: Piece<'t>,
 ) -> Result<Node<'t>, AllocError>
-    ensures { IfOk result (λ n. items n ≡ call_of fallible action type_arguments.entry arguments.entry) }
+    ensures items { IfOk result (λ n. items n ≡ call_of fallible action type_arguments.entry arguments.entry) }
+    ensures notes { IfOk result (λ n. all_notes n ≡ [] ∷ []) }
 {
     let part = if fallible {
         Part::CallFallible
@@ -247,7 +264,8 @@ fn call_line<'t>(
 
 /// Form 31: a symbol of another variant.
 pub fn mismatch<'t>(alloc: Global) -> Result<Node<'t>, AllocError>
-    ensures { IfOk result (λ n. items n ≡ leaf Part.Mismatch []) }
+    ensures items { IfOk result (λ n. items n ≡ leaf Part.Mismatch []) }
+    ensures notes { IfOk result (λ n. all_notes n ≡ [] ∷ []) }
 {
     bare(alloc, Part::Mismatch)
 }
@@ -265,6 +283,7 @@ pub fn pop<'t>(
 ) -> Result<Node<'t>, AllocError>
     ensures head { IfOk result (λ n. head n ≡ (Part.Pop, variant.entry ∷ location.entry ∷ symbol_parameters.entry ∷ ty.entry ∷ [], [])) }
     ensures below { IfOk result (λ n. parts_below n ≡ text_rows Part.PopRow type_parameters.entry.items ++ text_if Part.WhereLine clauses.entry) }
+    ensures notes { IfOk result (λ n. all_notes n ≡ [] ∷ unnoted (text_rows Part.PopRow type_parameters.entry.items ++ text_if Part.WhereLine clauses.entry)) }
 {
     let holes = vec![in alloc; variant.into_piece(), location, symbol_parameters, ty]?;
     let mut node = Node::leaf(alloc, Part::Pop, holes)?;
@@ -277,6 +296,7 @@ pub fn pop<'t>(
 pub fn reduce_fn<'t>(alloc: Global, below: Vec<Node<'t>>) -> Result<Node<'t>, AllocError>
     ensures head { IfOk result (λ n. head n ≡ (Part.ReduceFn, [], [])) }
     ensures below { IfOk result (λ n. parts_below n ≡ flat_map items below.entry.items) }
+    ensures notes { IfOk result (λ n. all_notes n ≡ [] ∷ flat_map all_notes below.entry.items) }
 {
     let mut node = bare(alloc, Part::ReduceFn)?;
     node.add_all(below)?;

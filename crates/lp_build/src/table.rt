@@ -4,10 +4,10 @@ ghost use Rattle.std.specs.Prelude.{◌≡◌, ◌==◌, [], ◌∷◌, ◌++◌
 ghost use Rattle.std.specs.Fmt.{decimal};
 ghost use Rattle.std.specs.List.{flat_map};
 ghost use Rattle.lp_build.specs.Built.{over, row, text_if, text_rows};
-ghost use Rattle.lp_build.specs.Tables.{goto_row, integer_row, range_text, symbol_row, variant_row};
-ghost use Rattle.lp_tree.specs.ProgramTree.{head, items, leaf, parts_below};
+ghost use Rattle.lp_build.specs.Tables.{goto_note, goto_row, integer_row, range_text, symbol_row, variant_row};
+ghost use Rattle.lp_tree.specs.ProgramTree.{all_notes, head, items, leaf, noted, parts_below, unnoted};
 
-use super::{add_text, add_texts, bare, barred, text_row};
+use super::{add_text, add_texts, bare, barred, note_if, text_row};
 use lp_form::Part;
 use lp_tree::piece::{Name, Piece};
 use lp_tree::tree::{Node, RowNote};
@@ -30,6 +30,7 @@ pub fn symbol_enum<'t>(
 ) -> Result<Node<'t>, AllocError>
     ensures head { IfOk result (λ n. head n ≡ (Part.SymbolEnum, type_parameters.entry ∷ [], [])) }
     ensures below { IfOk result (λ n. parts_below n ≡ text_if Part.WhereLine clauses.entry ++ map variant_row variants.entry.items) }
+    ensures notes { IfOk result (λ n. all_notes n ≡ [] ∷ unnoted (text_if Part.WhereLine clauses.entry ++ map variant_row variants.entry.items)) }
 {
     let mut node = text_row(alloc, Part::SymbolEnum, type_parameters)?;
     add_text(alloc, &mut node, Part::WhereLine, clauses)?;
@@ -54,6 +55,7 @@ fn table<'t>(
 ) -> Result<Node<'t>, AllocError>
     ensures head { IfOk result (λ n. head n ≡ (part, state_type.entry ∷ [], entries.items)) }
     ensures below { IfOk result (λ n. parts_below n ≡ []) }
+    ensures notes { IfOk result (λ n. all_notes n ≡ map noted notes.entry.items ∷ []) }
 {
     let mut node = text_row(alloc, part, state_type.into_piece())?;
     node.fill(entries, notes);
@@ -70,6 +72,7 @@ pub fn action_table<'t>(
 ) -> Result<Node<'t>, AllocError>
     ensures head { IfOk result (λ n. head n ≡ (Part.ActionTable, state_type.entry ∷ [], entries.items)) }
     ensures below { IfOk result (λ n. parts_below n ≡ []) }
+    ensures notes { IfOk result (λ n. all_notes n ≡ map noted notes.entry.items ∷ []) }
 {
     table(alloc, Part::ActionTable, state_type, entries, notes)
 }
@@ -80,7 +83,8 @@ pub fn action_lookup<'t>(
     state_type: Name<'t>,
     terminals: u64,
 ) -> Result<Node<'t>, AllocError>
-    ensures { IfOk result (λ n. items n ≡ if terminals == 1 then leaf Part.ActionLookupOne (state_type.entry ∷ []) else leaf Part.ActionLookup (state_type.entry ∷ decimal terminals ∷ [])) }
+    ensures items { IfOk result (λ n. items n ≡ if terminals == 1 then leaf Part.ActionLookupOne (state_type.entry ∷ []) else leaf Part.ActionLookup (state_type.entry ∷ decimal terminals ∷ [])) }
+    ensures notes { IfOk result (λ n. all_notes n ≡ [] ∷ []) }
 {
     let state_type = state_type.into_piece();
     if terminals == 1 {
@@ -103,6 +107,7 @@ pub fn eof_table<'t>(
 ) -> Result<Node<'t>, AllocError>
     ensures head { IfOk result (λ n. head n ≡ (Part.EofTable, state_type.entry ∷ [], entries.items)) }
     ensures below { IfOk result (λ n. parts_below n ≡ []) }
+    ensures notes { IfOk result (λ n. all_notes n ≡ map noted notes.entry.items ∷ []) }
 {
     table(alloc, Part::EofTable, state_type, entries, notes)
 }
@@ -115,6 +120,7 @@ pub fn goto_fn<'t>(
 ) -> Result<Node<'t>, AllocError>
     ensures head { IfOk result (λ n. head n ≡ (Part.GotoFn, state_type.entry ∷ [], [])) }
     ensures below { IfOk result (λ n. parts_below n ≡ flat_map items below.entry.items) }
+    ensures notes { IfOk result (λ n. all_notes n ≡ [] ∷ flat_map all_notes below.entry.items) }
 {
     let mut node = text_row(alloc, Part::GotoFn, state_type.into_piece())?;
     node.add_all(below)?;
@@ -123,7 +129,8 @@ pub fn goto_fn<'t>(
 
 /// Form 16: a nonterminal whose gotos have one target.
 pub fn goto_one<'t>(alloc: Global, nonterminal: u64, target: u64) -> Result<Node<'t>, AllocError>
-    ensures { IfOk result (λ n. items n ≡ leaf Part.GotoOne (decimal nonterminal ∷ decimal target ∷ [])) }
+    ensures items { IfOk result (λ n. items n ≡ leaf Part.GotoOne (decimal nonterminal ∷ decimal target ∷ [])) }
+    ensures notes { IfOk result (λ n. all_notes n ≡ [] ∷ []) }
 {
     let nonterminal = Piece::number(alloc, nonterminal)?;
     let target = Piece::number(alloc, target)?;
@@ -174,7 +181,8 @@ fn range_texts<'t>(alloc: Global, ranges: &[StateRange]) -> Result<Vec<Piece<'t>
 
 /// One arm of a nonterminal with several targets.
 fn goto_range<'t>(alloc: Global, arm: GotoArm<'t>) -> Result<Node<'t>, AllocError>
-    ensures { IfOk result (λ n. items n ≡ goto_row arm.entry ∷ []) }
+    ensures items { IfOk result (λ n. items n ≡ goto_row arm.entry ∷ []) }
+    ensures notes { IfOk result (λ n. all_notes n ≡ goto_note arm.entry ∷ []) }
 {
     let GotoArm {
         states,
@@ -185,10 +193,7 @@ fn goto_range<'t>(alloc: Global, arm: GotoArm<'t>) -> Result<Node<'t>, AllocErro
     let states = barred(alloc, states.as_slice())?;
     let target = Piece::number(alloc, target)?;
     let mut node = Node::leaf(alloc, Part::GotoRange, vec![in alloc; states, target]?)?;
-    match note {
-        Some(note) => node.note(alloc, vec![in alloc; note]?)?,
-        None => {}
-    }
+    note_if(alloc, &mut node, note)?;
     Ok(node)
 }
 
@@ -202,6 +207,7 @@ pub fn goto_match<'t>(
 ) -> Result<Node<'t>, AllocError>
     ensures head { IfOk result (λ n. head n ≡ (Part.GotoMatch, decimal nonterminal ∷ decimal other ∷ [], [])) }
     ensures below { IfOk result (λ n. parts_below n ≡ map goto_row arms.entry.items) }
+    ensures notes { IfOk result (λ n. all_notes n ≡ [] ∷ map goto_note arms.entry.items) }
 {
     let nonterminal = Piece::number(alloc, nonterminal)?;
     let other = Piece::number(alloc, other)?;
@@ -216,6 +222,7 @@ pub fn goto_match<'t>(
 pub fn terminal_list<'t>(alloc: Global, terminals: Vec<Piece<'t>>) -> Result<Node<'t>, AllocError>
     ensures head { IfOk result (λ n. head n ≡ (Part.TerminalList, [], [])) }
     ensures below { IfOk result (λ n. parts_below n ≡ text_rows Part.TerminalRow terminals.entry.items) }
+    ensures notes { IfOk result (λ n. all_notes n ≡ [] ∷ unnoted (text_rows Part.TerminalRow terminals.entry.items)) }
 {
     let mut node = bare(alloc, Part::TerminalList)?;
     add_texts(alloc, &mut node, Part::TerminalRow, terminals)?;
@@ -224,7 +231,8 @@ pub fn terminal_list<'t>(alloc: Global, terminals: Vec<Piece<'t>>) -> Result<Nod
 
 /// Form 19: the terminals with an action in a state.
 pub fn expected<'t>(alloc: Global, state_type: Name<'t>) -> Result<Node<'t>, AllocError>
-    ensures { IfOk result (λ n. items n ≡ leaf Part.Expected (state_type.entry ∷ [])) }
+    ensures items { IfOk result (λ n. items n ≡ leaf Part.Expected (state_type.entry ∷ [])) }
+    ensures notes { IfOk result (λ n. all_notes n ≡ [] ∷ []) }
 {
     text_row(alloc, Part::Expected, state_type.into_piece())
 }
@@ -238,6 +246,7 @@ pub fn expected_from_states<'t>(
 ) -> Result<Node<'t>, AllocError>
     ensures head { IfOk result (λ n. head n ≡ (Part.ExpectedFromStates, phantom.entry ∷ [], [])) }
     ensures below { IfOk result (λ n. parts_below n ≡ flat_map items below.entry.items) }
+    ensures notes { IfOk result (λ n. all_notes n ≡ [] ∷ flat_map all_notes below.entry.items) }
 {
     let mut node = text_row(alloc, Part::ExpectedFromStates, phantom)?;
     node.add_all(below)?;
@@ -259,6 +268,7 @@ pub fn token_to_integer<'t>(
 ) -> Result<Node<'t>, AllocError>
     ensures head { IfOk result (λ n. head n ≡ (Part.TokenToInteger, [], [])) }
     ensures below { IfOk result (λ n. parts_below n ≡ flat_map items below.entry.items ++ map integer_row arms.entry.items) }
+    ensures notes { IfOk result (λ n. all_notes n ≡ [] ∷ (flat_map all_notes below.entry.items ++ unnoted (map integer_row arms.entry.items))) }
 {
     let mut node = bare(alloc, Part::TokenToInteger)?;
     node.add_all(below)?;
@@ -274,6 +284,7 @@ pub fn token_to_integer<'t>(
 pub fn token_to_symbol<'t>(alloc: Global, below: Vec<Node<'t>>) -> Result<Node<'t>, AllocError>
     ensures head { IfOk result (λ n. head n ≡ (Part.TokenToSymbol, [], [])) }
     ensures below { IfOk result (λ n. parts_below n ≡ flat_map items below.entry.items) }
+    ensures notes { IfOk result (λ n. all_notes n ≡ [] ∷ flat_map all_notes below.entry.items) }
 {
     let mut node = bare(alloc, Part::TokenToSymbol)?;
     node.add_all(below)?;
@@ -301,7 +312,8 @@ pub fn symbol_arm<'t>(
     variant: Name<'t>,
     captures: Piece<'t>,
 ) -> Result<Node<'t>, AllocError>
-    ensures { IfOk result (λ n. items n ≡ symbol_row terminals.now patterns.entry.items variant.entry captures.entry) }
+    ensures items { IfOk result (λ n. items n ≡ symbol_row terminals.now patterns.entry.items variant.entry captures.entry) }
+    ensures notes { IfOk result (λ n. all_notes n ≡ [] ∷ []) }
 {
     let terminals = number_texts(alloc, terminals)?;
     let terminals = barred(alloc, terminals.as_slice())?;
