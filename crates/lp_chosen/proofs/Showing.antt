@@ -1,6 +1,6 @@
 -- A text that reads as a program shows its prefix.
-use Rattle.std.proofs.Common.{◌≡◌, ℕ, ◌+◌, ◌<◌, true, false, ◌&&◌, ◌==◌, List, [], ◌∷◌, ◌++◌, length, get_or, drop, codes, refl, sym, ◌∙◌, ap, subst, arith, eqb, append_assoc, append-nil}
-use Rattle.std.specs.List.{starts_with, list_all}
+use Rattle.std.proofs.Common.{◌≡◌, ℕ, ◌+◌, ◌<◌, true, false, ◌&&◌, ◌==◌, List, [], ◌∷◌, ◌++◌, length, get_or, drop, codes, refl, sym, ◌∙◌, ap, subst, arith}
+use Rattle.std.specs.List.{list_all}
 use Rattle.std.specs.Str.{IsUtf8}
 use Rattle.std.proofs.lemmas.Bool.{and_parts, both_ways}
 use Rattle.lp_form.specs.Classes.{members_of}
@@ -10,14 +10,11 @@ use Rattle.lp_form.specs.declared.class.Class.{Class}
 use Rattle.lp_form.specs.declared.class.Class.TheVariants as class_of
 use Rattle.lp_form.specs.declared.part.Part.{Part}
 use Rattle.lp_form.specs.declared.part.Part.TheVariants as part
-use Rattle.lp_form.specs.declared.template.Kind.TheVariants as kind
-use Rattle.lp_form.specs.declared.template.Slot.TheVariants.{Nothing, Prefix, Hole}
+use Rattle.lp_form.specs.declared.template.Slot.TheVariants.{Hole}
 use Rattle.lp_form.specs.declared.template.Step.TheVariants as step
 use Rattle.lp_spelling.specs.Counting.{settled}
 use Rattle.lp_spelling.specs.Lines.{line_of}
-use Rattle.lp_spelling.specs.Fillings.{has_shape, Fits, Fills}
-use Rattle.lp_spelling.specs.LineReading.{kind_of}
-use Rattle.lp_spelling.proofs.Reading.{starts_ok}
+use Rattle.lp_spelling.specs.Fillings.{Fills}
 use Rattle.lp_program.specs.Begins.{member}
 use Rattle.lp_program.specs.OwnLines.{hole}
 use Rattle.lp_program.specs.Printed.{is_member}
@@ -28,6 +25,7 @@ use Rattle.lp_program.specs.Trees.Forest.{bare, tree}
 use Rattle.lp_shown.proofs.Parts.{member_place}
 use Rattle.lp_program.specs.Prefixes.{renaming, renamed, ShowsPrefix}
 use Rattle.lp_program.specs.Prefixes.ShowsPrefix.{shown, behind_use, behind_line}
+use Rattle.lp_program.proofs.Showing.{attribute_steps, use_steps, first_line, second_line, standard_steps, program_steps, hash_line, attribute_kind, attribute_fills, attribute_line, first_spelled, second_spelled}
 use Rattle.lp_chosen.proofs.Following.{front_utf8, settled_follows, line_follows, use_follows, behind_byte, front_of_byte}
 use Rattle.lp_chosen.proofs.Taking.{task_takes}
 use Rattle.lp_chosen.proofs.Made.{made, no_trees}
@@ -44,29 +42,6 @@ line_made : (prefix : List ℕ) (c : Content) (count blanks : ℕ) (pieces : Lis
 line_made prefix c count blanks pieces others f text rest reads =
     let m = made prefix (steps c count ((step.Line blanks, pieces) ∷ others) f) text rest reads in
     record { own = m.own; takes = m.takes; count = count + tree_count m.now; later = m.later; goes_on = subst (λ (x : List ℕ). Reads prefix (steps c (count + tree_count m.now) others m.later) x rest) (no_trees prefix m.now m.own m.mid m.may m.reads) m.goes_on }
-
--- the steps of the parts in front
-attribute_steps : steps_of part.Attribute ≡ (step.Line 0, ([], Hole 0) ∷ []) ∷ []
-unfolding steps_of
-attribute_steps = refl
-
-use_steps : steps_of part.UseLine ≡ (step.Use, []) ∷ []
-unfolding steps_of
-use_steps = refl
-
-abbrev first_line : List Piece
-first_line = (codes "#[allow(unused_extern_crates)]", Nothing) ∷ []
-
-abbrev second_line : List Piece
-second_line = (codes "extern crate lalrpop_util as ", Prefix) ∷ (codes "lalrpop_util;", Nothing) ∷ []
-
-standard_steps : steps_of part.StandardUses ≡ (step.Line 0, first_line) ∷ (step.Line 0, second_line) ∷ drop 2 (steps_of part.StandardUses)
-unfolding steps_of
-standard_steps = refl
-
-program_steps : steps_of part.Program ≡ (step.Many class_of.Attribute, []) ∷ (step.Many class_of.Use, []) ∷ (step.One class_of.StandardUses, []) ∷ drop 3 (steps_of part.Program)
-unfolding steps_of
-program_steps = refl
 
 -- their classes
 alone : (class : Class) (p q : Part) → member class 0 ≡ q → length (members_of class) ≡ 1 → is_member class p ≡ true → p ≡ q
@@ -88,29 +63,15 @@ standard_is : (p : Part) → is_member class_of.StandardUses p ≡ true → p �
 unfolding members_of
 standard_is p m = alone class_of.StandardUses p part.StandardUses refl refl m
 
--- an attribute begins no use, and renames nothing
-hash_line : (x y : List ℕ) → x ≡ 35 ∷ y → (starts_with eqb x (codes "use ") ≡ false) × (starts_with eqb x renaming ≡ false)
-hash_line x y e = (ap (λ (z : List ℕ). starts_with eqb z (codes "use ")) e, ap (λ (z : List ℕ). starts_with eqb z renaming) e)
-
-attribute_kind : kind_of (holes_of part.Attribute) 0 ≡ kind.Attribute
-unfolding holes_of
-attribute_kind = refl
-
+-- an attribute begins with `#`
 one_kind : 0 < length (holes_of part.Attribute)
 unfolding holes_of
 one_kind = omega arith
 
-attribute_fills : (prefix x : List ℕ) → Fills prefix kind.Attribute x → starts_with eqb x (codes "#![") ≡ true
-unfolding Fits has_shape
-attribute_fills prefix x f = (and_parts (starts_with eqb x (codes "#![")) _ f.1.0).0
-
-attribute_line : (prefix : List ℕ) (holes : List (List ℕ)) → KindsFill prefix part.Attribute holes → line_of prefix holes (([], Hole 0) ∷ []) ≡ 35 ∷ drop 1 (get_or holes 0 [])
-unfolding line_of
-attribute_line prefix holes fills =
+attribute_hash : (prefix : List ℕ) (holes : List (List ℕ)) → KindsFill prefix part.Attribute holes → line_of prefix holes (([], Hole 0) ∷ []) ≡ 35 ∷ drop 1 (get_or holes 0 [])
+attribute_hash prefix holes fills =
     let x : List ℕ = get_or holes 0 [] in
-    let f : Fills prefix kind.Attribute x = subst (λ k. Fills prefix k x) attribute_kind (fills 0 one_kind) in
-    let e : x ≡ 35 ∷ (33 ∷ 91 ∷ drop 3 x) = starts_ok (codes "#![") x (attribute_fills prefix x f) in
-    append-nil x ∙ e ∙ ap (λ (y : List ℕ). 35 ∷ drop 1 y) (sym e)
+    attribute_line prefix holes ∙ attribute_fills prefix x (subst (λ k. Fills prefix k x) attribute_kind (fills 0 one_kind))
 
 -- the prefix is shown behind parts that don't show it
 abbrev Passed : List ℕ → List ℕ → List ℕ → Type 0
@@ -120,7 +81,7 @@ attribute_passed : (prefix : List ℕ) (c : Content) (below : Forest) (text mid 
 attribute_passed prefix c below text mid is fills reads shows =
     let m = line_made prefix c 0 0 (([], Hole 0) ∷ []) [] below text mid (subst (λ ss. Reads prefix (steps c 0 ss below) text mid) (ap steps_of is ∙ attribute_steps) reads) in
     let same : mid ≡ m.own = made prefix (steps c m.count [] m.later) m.own mid m.goes_on in
-    let no = hash_line (line_of prefix c.holes (([], Hole 0) ∷ [])) _ (attribute_line prefix c.holes (subst (λ p. KindsFill prefix p c.holes) is fills)) in
+    let no = hash_line (line_of prefix c.holes (([], Hole 0) ∷ [])) _ (attribute_hash prefix c.holes (subst (λ p. KindsFill prefix p c.holes) is fills)) in
     behind_line text _ m.own m.takes no.0 no.1 (subst (λ (x : List ℕ). ShowsPrefix prefix x) same shows)
 
 use_passed : (prefix : List ℕ) (c : Content) (below : Forest) (text mid : List ℕ) → IsUtf8 text → c.part ≡ part.UseLine → Reads prefix (steps c 0 (steps_of c.part) below) text mid → Passed prefix text mid
@@ -146,14 +107,6 @@ uses_passed prefix (tree c below after) text rest u may reads shows =
     use_passed prefix c below text m.mid u (use_is c.part p.0) m.inner (uses_passed prefix after m.mid rest v p.1 m.outer shows)
 
 -- the standard uses show it
-first_spelled : (prefix : List ℕ) (holes : List (List ℕ)) → line_of prefix holes first_line ≡ codes "#[allow(unused_extern_crates)]"
-unfolding line_of
-first_spelled prefix holes = refl
-
-second_spelled : (prefix : List ℕ) (holes : List (List ℕ)) → line_of prefix holes second_line ≡ renaming ++ renamed prefix
-unfolding line_of
-second_spelled prefix holes = append_assoc renaming prefix (codes "lalrpop_util;")
-
 standard_shows : (prefix : List ℕ) (c : Content) (below : Forest) (text mid : List ℕ) → is_prefix prefix ≡ true → c.part ≡ part.StandardUses → Reads prefix (steps c 0 (steps_of c.part) below) text mid → ShowsPrefix prefix text
 standard_shows prefix c below text mid fits is reads =
     let others = drop 2 (steps_of part.StandardUses) in

@@ -10,7 +10,8 @@ use Rattle.lp_tree.specs.declared.tree.Entry.{Entry}
 use Rattle.lp_tree.specs.declared.tree.Program.{Program}
 use Rattle.lp_tree.specs.declared.tree.RowNote.{RowNote}
 use Rattle.lp_spelling.specs.LineReading.{kind_of}
-use Rattle.lp_program.specs.Trees.{note, whole}
+use Rattle.lp_tree.specs.ProgramTree.{noted}
+use Rattle.lp_program.specs.Trees.{whole}
 use Rattle.lp_laws.specs.LineTexts.{ends_open}
 use Rattle.lp_laws.specs.WellFormed.{HolesFill, IsNote, IsSteady, IsTrailing}
 use Rattle.lp_found.specs.Parted.{IsParted}
@@ -19,7 +20,7 @@ use Rattle.lp_fitting.specs.Fitting.{HolesFit, IsFitting, MayStand}
 
 -- a note whose lines and comments are such
 abbrev pub IsPlain : RowNote → Type 0
-IsPlain part = IsNote (note part) × IsSteady (note part)
+IsPlain part = IsNote (noted part) × IsSteady (noted part)
 
 abbrev pub IsSteadyLine : List ℕ → Type 0
 IsSteadyLine line = IsTrailing line × (ends_open line ≡ false)
@@ -63,7 +64,7 @@ AreFilling prefix e = HolesFill prefix (holes_of e.part) e.holes.items × All Is
 pub part_fails : (prefix : List ℕ) (e : Entry) → (IsTrue false ↔ All IsPlain e.notes.items) → IsTrue false ↔ HolesFit prefix e
 part_fails prefix e told = (
   λ t. absurd (false≢true t),
-  λ w. told.1 (λ k d lt. (unmapped IsNote note e.notes.items w.notes k d lt, unmapped IsSteady note e.notes.items w.steady k d lt)),
+  λ w. told.1 (λ k d lt. (unmapped IsNote noted e.notes.items w.notes k d lt, unmapped IsSteady noted e.notes.items w.steady k d lt)),
 )
 
 pub unfilled : (prefix : List ℕ) (e : Entry) (r : Bool) → r ≡ false → (IsTrue r ↔ AreFilling prefix e) → IsTrue false ↔ HolesFit prefix e
@@ -76,8 +77,8 @@ part_told prefix e (Ok b) notes filling told = (
     fills = filling.0;
     utf8 = filling.1;
     parted = told.0 t;
-    notes = All-map IsNote note e.notes.items (All-weaker IsPlain (λ n. IsNote (note n)) (λ x p. p.0) e.notes.items notes);
-    steady = All-map IsSteady note e.notes.items (All-weaker IsPlain (λ n. IsSteady (note n)) (λ x p. p.1) e.notes.items notes);
+    notes = All-map IsNote noted e.notes.items (All-weaker IsPlain (λ n. IsNote (noted n)) (λ x p. p.0) e.notes.items notes);
+    steady = All-map IsSteady noted e.notes.items (All-weaker IsPlain (λ n. IsSteady (noted n)) (λ x p. p.1) e.notes.items notes);
   },
   λ w. told.1 w.parted,
 )

@@ -6,7 +6,8 @@ use Rattle.lp_form.specs.declared.template.Kind.{Kind}
 use Rattle.lp_tree.specs.declared.tree.Entry.{Entry}
 use Rattle.lp_tree.specs.declared.tree.Program.{Program}
 use Rattle.lp_spelling.specs.Fillings.{Fits}
-use Rattle.lp_program.specs.Trees.{note, whole}
+use Rattle.lp_tree.specs.ProgramTree.{noted}
+use Rattle.lp_program.specs.Trees.{whole}
 use Rattle.lp_found.specs.Parted.{IsParted}
 use Rattle.lp_fitting.specs.Bodies.{BodiesSuit}
 use Rattle.lp_laws.specs.WellFormed.{HolesFill, IsNote, IsSteady, is_pattern}
@@ -20,8 +21,8 @@ pub record HolesFit (prefix : List ℕ) (e : Entry) : Type 0 where
   pub fills : HolesFill prefix (holes_of e.part) e.holes.items
   pub utf8 : All IsUtf8 e.holes.items
   pub parted : IsParted prefix e.part e.holes.items
-  pub notes : All IsNote (map note e.notes.items)
-  pub steady : All IsSteady (map note e.notes.items)
+  pub notes : All IsNote (map noted e.notes.items)
+  pub steady : All IsSteady (map noted e.notes.items)
 
 -- of a program: the prefix isn't empty, the holes of each part fit, and the bodies of actions suit the parameters before them
 pub record IsFitting (program : Program) : Type 0 where

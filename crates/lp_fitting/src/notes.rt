@@ -5,9 +5,9 @@ ghost use Rattle.std.specs.Char.{is_whitespace};
 ghost use Rattle.std.specs.Str.{chars};
 ghost use Rattle.lp_write.specs.Lines.{opens};
 ghost use Rattle.lp_texts.specs.OneLine.{begins};
-ghost use Rattle.lp_program.specs.Trees.{note};
 ghost use Rattle.lp_laws.specs.LineTexts.{is_on_line, ends_open, IsLineText, IsSkipped};
 ghost use Rattle.lp_laws.specs.WellFormed.{IsNote, IsSteady, IsTrailing};
+ghost use Rattle.lp_tree.specs.ProgramTree.{noted};
 
 use lp_spelling::cursor::is_skipped;
 use lp_tree::{Piece, RowNote};
@@ -97,14 +97,14 @@ fn are_trailing(comments: &[Piece<'_>]) -> bool
 }
 
 fn is_note(part: &RowNote<'_>) -> bool
-    ensures { IsTrue result ↔ (IsNote (note part.now) × IsSteady (note part.now)) }
+    ensures { IsTrue result ↔ (IsNote (noted part.now) × IsSteady (noted part.now)) }
 {
     are_steady(&part.lines) && are_trailing(&part.comments)
 }
 
 /// Whether notes are comments, none of whose lines ends with an opening bracket.
 pub(crate) fn are_notes(notes: &[RowNote<'_>]) -> bool
-    ensures { IsTrue result ↔ All (λ part. IsNote (note part) × IsSteady (note part)) notes.now }
+    ensures { IsTrue result ↔ All (λ part. IsNote (noted part) × IsSteady (noted part)) notes.now }
 {
     for part in notes {
         if !is_note(part) {

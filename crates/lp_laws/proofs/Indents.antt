@@ -21,7 +21,8 @@ use Rattle.lp_spelling.specs.LineReading.{kind_of}
 use Rattle.lp_spelling.specs.Lines.{slot_text, line_of}
 use Rattle.lp_program.specs.OwnLines.{hole, spelled, note_lines, code_lines, own_lines}
 use Rattle.lp_program.specs.TableRows.{commented, entry_line, entry_lines, row_lines, no_note, rows_from, table_lines}
-use Rattle.lp_program.specs.Trees.{Content, Note}
+use Rattle.lp_tree.specs.ProgramTree.{Note}
+use Rattle.lp_program.specs.Trees.{Content}
 use Rattle.lp_laws.specs.LineTexts.{ends_open}
 use Rattle.lp_laws.specs.LineTests.{next_so}
 use Rattle.lp_laws.specs.TemplateTests.{is_nothing}

@@ -22,7 +22,8 @@ use Rattle.lp_program.specs.OwnLines.{hole, code_lines}
 use Rattle.lp_program.specs.Printed.{step_lines, printed, list_lines}
 use Rattle.lp_program.specs.Reads.{parts_in, hole_count, KindsFill, Reads, trees, steps, is_prefix, IsProgram}
 use Rattle.lp_program.specs.Reads.Reads.{no_tree, no_step, one_step}
-use Rattle.lp_program.specs.Trees.{Content, Forest, content, forest, forest_within, note, tree_count, whole}
+use Rattle.lp_tree.specs.ProgramTree.{noted}
+use Rattle.lp_program.specs.Trees.{Content, Forest, content, forest, forest_within, tree_count, whole}
 use Rattle.lp_program.specs.Trees.Forest.{bare, tree}
 use Rattle.lp_tree.specs.declared.tree.Entry.{Entry}
 use Rattle.lp_texts.specs.Identifiers.{is_identifier, is_word}
@@ -212,7 +213,7 @@ Few (tree c below after) = (length c.notes < 2 ^ 64) × Few below × Few after
 
 entry_few : (e : Entry) → length (content e).notes < 2 ^ 64
 entry_few e =
-    let size : length (content e).notes ≡ length e.notes.items = length-map e.notes.items note in
+    let size : length (content e).notes ≡ length e.notes.items = length-map e.notes.items noted in
     let known = e.notes.ok in
     let fits = e.notes.small in
     omega (arith, size, known, fits)

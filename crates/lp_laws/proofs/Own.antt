@@ -21,7 +21,8 @@ use Rattle.lp_program.specs.CodeReading.{IsUse}
 use Rattle.lp_program.specs.OwnLines.{hole, spelled, note_lines, own_lines}
 use Rattle.lp_program.specs.Reads.{TakesLine, TakesLines, TakesOwn}
 use Rattle.lp_program.specs.TableRows.{table_lines}
-use Rattle.lp_program.specs.Trees.{Content, Note}
+use Rattle.lp_tree.specs.ProgramTree.{Note}
+use Rattle.lp_program.specs.Trees.{Content}
 use Rattle.lp_laws.specs.LineTexts.{is_on_line, Counts, text_in}
 use Rattle.lp_laws.specs.LineTests.{is_good, is_sound_line}
 use Rattle.lp_laws.specs.TemplateTests.{is_class, exact_after, has_class, ends_next, is_sound_step}

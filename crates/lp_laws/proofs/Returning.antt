@@ -25,7 +25,8 @@ use Rattle.lp_program.specs.OwnLines.{hole, spelled, note_lines, own_lines}
 use Rattle.lp_program.specs.Printed.{takes, all_lines, step_lines, printed}
 use Rattle.lp_program.specs.Reads.{parts_in, may_have}
 use Rattle.lp_program.specs.TableRows.{commented, entry_line, entry_lines, row_lines, no_note, rows_from, table_lines}
-use Rattle.lp_program.specs.Trees.{Content, Note, Forest, tree_count}
+use Rattle.lp_tree.specs.ProgramTree.{Note}
+use Rattle.lp_program.specs.Trees.{Content, Forest, tree_count}
 use Rattle.lp_program.specs.Trees.Forest.{bare, tree}
 use Rattle.lp_laws.specs.LineTexts.{IsSkipped, ends_open}
 use Rattle.lp_laws.specs.TemplateTests.{is_class, has_class, is_one}

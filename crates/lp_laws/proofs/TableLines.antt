@@ -14,7 +14,6 @@ use Rattle.lp_spelling.specs.TableReading.{entries}
 use Rattle.lp_laws.specs.LineTexts.{IsSkipped}
 use Rattle.lp_laws.specs.WellFormed.{IsTrailing, IsNote}
 use Rattle.lp_program.specs.TableRows.{commented, entry_line, entry_lines, row_lines, no_note, last_lines, rows_from, table_lines}
-use Rattle.lp_program.specs.Trees.{Note}
 use Rattle.lp_laws.proofs.Lining.{laid, on_line-append}
 use Rattle.std.specs.Char.{is_whitespace}
 use Rattle.std.proofs.lemmas.Bool.{or_right}
@@ -26,6 +25,7 @@ use Rattle.lp_laws.proofs.Sound.{plain_ascii}
 use Rattle.lp_laws.proofs.Bytes.{any_laid, bytes-split, bytes-first, trailing_laid, skipped_trails}
 use Rattle.lp_laws.proofs.Numbers.{IsSmall, decimal_digits}
 use Rattle.lp_laws.proofs.Entries.{Gives, gives_then, gives_none, gives_one, gives_more, gives_feed, gives_blanks, gives_entries}
+use Rattle.lp_tree.specs.ProgramTree.{Note}
 
 -- numbers of 32 bits
 small : (z : ℤ) → FitsSigned w32 z → IsSmall z

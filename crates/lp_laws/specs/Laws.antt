@@ -14,7 +14,8 @@ use Rattle.lp_spelling.specs.TableReading.{entries}
 use Rattle.lp_program.specs.Printed.{lines}
 use Rattle.lp_program.specs.Reads.{TakesLine, ReadsAs}
 use Rattle.lp_program.specs.TableRows.{table_lines}
-use Rattle.lp_program.specs.Trees.{Note, whole}
+use Rattle.lp_tree.specs.ProgramTree.{Note}
+use Rattle.lp_program.specs.Trees.{whole}
 use Rattle.lp_laws.specs.LineTexts.{Counts, text_in}
 use Rattle.lp_laws.specs.WellFormed.{IsUseText, IsCodeText, IsTrailing, IsNote, IsWellFormed}
 use Rattle.lp_repr.specs.NormalCode.{norm_of}

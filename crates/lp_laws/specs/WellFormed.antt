@@ -17,7 +17,8 @@ use Rattle.lp_spelling.specs.LineReading.{kind_of}
 use Rattle.lp_program.specs.OwnLines.{hole}
 use Rattle.lp_program.specs.Printed.{takes, takes_one}
 use Rattle.lp_program.specs.Reads.{parts_in, may_have, hole_count, is_prefix, IsProgram}
-use Rattle.lp_program.specs.Trees.{Content, Note, Forest, whole}
+use Rattle.lp_tree.specs.ProgramTree.{Note}
+use Rattle.lp_program.specs.Trees.{Content, Forest, whole}
 use Rattle.lp_program.specs.Trees.Forest.{bare, tree}
 use Rattle.lp_laws.specs.LineTexts.{IsSkipped, ends_open}
 

@@ -17,6 +17,7 @@ pub mod Once
 pub mod Telling
 pub mod Prefixes
 pub mod Settling
+pub mod Showing
 pub mod Sizes
 pub mod Parameters
 pub mod Answering

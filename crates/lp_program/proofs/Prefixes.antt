@@ -13,6 +13,7 @@ use Rattle.lp_spelling.specs.declared.cursor.Cursor.{Cursor}
 use Rattle.lp_local.proofs.Agreeing.{feeds_feed, feeds_text}
 use Rattle.lp_spelling.proofs.Counting.{settled_none, settled_skips}
 use Rattle.lp_spelling.proofs.Reading.{starts_again, starts_ok}
+use Rattle.lp_program.specs.Choosing.{HasNumbers}
 use Rattle.lp_program.specs.CodeReading.{IsUse}
 use Rattle.lp_program.specs.Prefixes.{renaming, renamed, ShowsPrefix}
 use Rattle.lp_program.specs.Prefixes.ShowsPrefix.{shown, behind_use, behind_line}
@@ -196,10 +197,14 @@ only_feeds (b ∷ text) e = elim (cases_Bool (b == 10)) [
   | inr z ↦ (let count = feeds_text b text z in let few = count_by-le-length (λ c. c == 10) text in absurd (omega (arith, count, few, e)))
 ]
 
-pub shows_counted : (prefix text : List ℕ) → length text < 2 ^ 64 → ShowsPrefix prefix text → feeds text + 1 < 2 ^ 64
-shows_counted prefix text size shows =
+-- the lines of a text that has numbers can be counted
+pub numbers_fit : (text : List ℕ) → length text < 2 ^ 64 → HasNumbers text → feeds text + 1 < 2 ^ 64
+numbers_fit text size numbers =
     let few = count_by-le-length (λ c. c == 10) text in
     elim (cases_lt (feeds text) (length text)) [
       | inl lt ↦ omega (arith, lt, size)
-      | inr le ↦ absurd (shows_none prefix text (only_feeds text (omega (arith, few, le))) shows)
+      | inr le ↦ numbers (only_feeds text (omega (arith, few, le)))
     ]
+
+pub shows_counted : (prefix text : List ℕ) → length text < 2 ^ 64 → ShowsPrefix prefix text → feeds text + 1 < 2 ^ 64
+shows_counted prefix text size shows = numbers_fit text size (λ empty. absurd (shows_none prefix text empty shows))

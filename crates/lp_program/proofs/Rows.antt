@@ -9,9 +9,9 @@ use Rattle.lp_write.specs.Rows.{entry_piece, row_text, AreEntryTexts}
 use Rattle.lp_write.specs.Writes.{Writing, Writes, Ending}
 use Rattle.lp_write.specs.declared.rust.Options.{Options}
 use Rattle.lp_tree.specs.declared.tree.RowNote.{RowNote}
-use Rattle.lp_program.specs.Trees.{Note, note}
 use Rattle.lp_program.specs.TableRows.{entry_line, entry_lines, last_lines, row_entry, row_lines, rows_from}
 use Rattle.lp_program.proofs.Printing.{take-capped}
+use Rattle.lp_tree.specs.ProgramTree.{Note, noted}
 
 -- the numbers of a row on one line, whatever stands beside them
 row-text : (w : Bool) (row : List (ℤ × Bor (List ℕ))) → row_text w row ≡ row_text w (map row_entry row)
@@ -48,11 +48,11 @@ entries-written e a b row entries is plain commented = choose a.options.comments
 -- the row of the next note, and those after it
 pub rows-next : (o : Options) (numbers : List ℤ) (notes : List RowNote) (i from end : ℕ) (n : RowNote) → n ≡ get_or notes i n → i < length notes →
     from ≤ length numbers → end ≡ max (min n.end (length numbers)) from →
-    rows_from o i from (drop from numbers) (map note (drop i notes))
-    ≡ row_lines o i (take (end - from) (drop from numbers)) (note n) ++ rows_from o (i + 1) end (drop end numbers) (map note (drop (i + 1) notes))
+    rows_from o i from (drop from numbers) (map noted (drop i notes))
+    ≡ row_lines o i (take (end - from) (drop from numbers)) (noted n) ++ rows_from o (i + 1) end (drop end numbers) (map noted (drop (i + 1) notes))
 unfolding rows_from
 rows-next o numbers notes i from end n e h f k =
-    let rest : List Note = map note (drop (i + 1) notes) in
+    let rest : List Note = map noted (drop (i + 1) notes) in
     let all : List ℤ = drop from numbers in
     let d : length all ≡ length numbers - from = length-drop from numbers in
     let row : take (end - from) all ≡ take (n.end - from) all = take-capped (end - from) (n.end - from) all (omega (arith, d)) in
@@ -60,16 +60,16 @@ rows-next o numbers notes i from end n e h f k =
     let to : from + length (take (end - from) all) ≡ end = omega (arith, size) in
     let left : drop (length (take (end - from) all)) all ≡ drop end numbers
     = drop-drop (length (take (end - from) all)) from numbers ∙ ap (λ m. drop m numbers) to in
-    at_drop_more (λ l. rows_from o i from all (map note l)) notes i n h
-    ∙ ap (λ (m : RowNote). rows_from o i from all (note m ∷ rest)) (sym e)
-    ∙ ap (λ (l : List ℤ). row_lines o i l (note n) ++ rows_from o (i + 1) (from + length l) (drop (length l) all) rest) (sym row)
-    ∙ ap (λ (m : ℕ). row_lines o i (take (end - from) all) (note n) ++ rows_from o (i + 1) m (drop (length (take (end - from) all)) all) rest) to
-    ∙ ap (λ (l : List ℤ). row_lines o i (take (end - from) all) (note n) ++ rows_from o (i + 1) end l rest) left
+    at_drop_more (λ l. rows_from o i from all (map noted l)) notes i n h
+    ∙ ap (λ (m : RowNote). rows_from o i from all (noted m ∷ rest)) (sym e)
+    ∙ ap (λ (l : List ℤ). row_lines o i l (noted n) ++ rows_from o (i + 1) (from + length l) (drop (length l) all) rest) (sym row)
+    ∙ ap (λ (m : ℕ). row_lines o i (take (end - from) all) (noted n) ++ rows_from o (i + 1) m (drop (length (take (end - from) all)) all) rest) to
+    ∙ ap (λ (l : List ℤ). row_lines o i (take (end - from) all) (noted n) ++ rows_from o (i + 1) end l rest) left
 
 -- the row of what the notes leave
 pub rows-last : (o : Options) (numbers : List ℤ) (notes : List RowNote) (i from : ℕ) → length notes ≤ i → i ≤ length notes →
-    rows_from o i from (drop from numbers) (map note (drop i notes)) ≡ last_lines o (length notes) (drop from numbers)
+    rows_from o i from (drop from numbers) (map noted (drop i notes)) ≡ last_lines o (length notes) (drop from numbers)
 unfolding rows_from
 rows-last o numbers notes i from h k =
-    at_drop_all (λ l. rows_from o i from (drop from numbers) (map note l)) notes i h
+    at_drop_all (λ l. rows_from o i from (drop from numbers) (map noted l)) notes i h
     ∙ (let e : i ≡ length notes = omega arith in ap (λ m. last_lines o m (drop from numbers)) e)

@@ -15,7 +15,8 @@ use Rattle.lp_program.specs.Growing.{IsFilled}
 use Rattle.lp_program.specs.Nearby.{OfLike, OfTaken}
 use Rattle.lp_program.specs.Reads.{graft, hole_count}
 use Rattle.lp_program.specs.Telling.{Told, told, untold, OwnTold, TellsOwn}
-use Rattle.lp_program.specs.Trees.{Content, content, note, Forest, tree_count}
+use Rattle.lp_tree.specs.ProgramTree.{noted}
+use Rattle.lp_program.specs.Trees.{Content, content, Forest, tree_count}
 use Rattle.lp_program.specs.Trees.Forest.{bare, tree}
 use Rattle.lp_program.proofs.Answering.{Passes, passes_none, passes_then}
 use Rattle.lp_program.proofs.Chosen.{BelowOnce, below_once, step_once, part_once, part_steps_once}
@@ -223,10 +224,10 @@ filled_content first entry g n p f is none =
     let part : entry.part ≡ p = f.part_is ∙ is in
     let holes : entry.holes.items ≡ g.holes.items = ap (λ v. v.items) f.holes_are in
     let numbers : entry.numbers.items ≡ g.numbers.items = ap (λ v. v.items) f.numbers_are in
-    let notes : map note entry.notes.items ≡ [] = ap (λ v. map note v.items) f.notes_are ∙ ap (map note) none in
-    ap (λ (q : Part). record { part = q; holes = entry.holes.items; numbers = entry.numbers.items; notes = map note entry.notes.items }) part
-    ∙ ap (λ (x : List (List ℕ)). record { part = p; holes = x; numbers = entry.numbers.items; notes = map note entry.notes.items }) holes
-    ∙ ap (λ x. record { part = p; holes = g.holes.items; numbers = x; notes = map note entry.notes.items }) numbers
+    let notes : map noted entry.notes.items ≡ [] = ap (λ v. map noted v.items) f.notes_are ∙ ap (map noted) none in
+    ap (λ (q : Part). record { part = q; holes = entry.holes.items; numbers = entry.numbers.items; notes = map noted entry.notes.items }) part
+    ∙ ap (λ (x : List (List ℕ)). record { part = p; holes = x; numbers = entry.numbers.items; notes = map noted entry.notes.items }) holes
+    ∙ ap (λ x. record { part = p; holes = g.holes.items; numbers = x; notes = map noted entry.notes.items }) numbers
     ∙ ap (λ x. record { part = p; holes = g.holes.items; numbers = g.numbers.items; notes = x }) notes
 
 -- a part is read: an entry with what its steps told, over the parts of their trees

@@ -1,5 +1,5 @@
 -- A whole program that is read, or isn't.
-use Rattle.std.proofs.Common.{◌≡◌, ℕ, zero, suc, Bool, true, false, List, [], ◌++◌, Option, Some, None, Bor, refl, sym, ap, ◌∙◌, arith, subst}
+use Rattle.std.proofs.Common.{◌≡◌, ℕ, zero, suc, ◌^◌, ◌<◌, Bool, true, false, inl, inr, codes, length, List, [], ◌++◌, Option, Some, None, Bor, refl, sym, ap, ◌∙◌, arith, subst}
 use Rattle.std.specs.Bool.{Decides}
 use Rattle.std.specs.Option.{MatchOption, unwrap_or}
 use Rattle.std.specs.Str.{IsUtf8}
@@ -7,22 +7,25 @@ use Rattle.std.proofs.lemmas.Bool.{false≢true}
 use Rattle.lp_form.specs.declared.part.Part.{Part}
 use Rattle.lp_form.specs.declared.part.Part.TheVariants as part
 use Rattle.lp_spelling.specs.Counting.{settled}
+use Rattle.lp_spelling.specs.Cursors.{left}
 use Rattle.lp_tree.specs.declared.tree.Program.{Program}
 use Rattle.lp_program.specs.declared.read.reader.Reader.{Reader}
 use Rattle.lp_program.specs.Adding.{SamePlace}
 use Rattle.lp_program.specs.Answering.{NoneRead, AnswersTrees}
 use Rattle.lp_program.specs.declared.read.reader.ReadFault.TheVariants as fault
-use Rattle.lp_program.specs.Choosing.{IsChosen, IsRefused, PartChosen, WholeChosen, grown}
+use Rattle.lp_program.specs.Choosing.{IsChosen, IsReadUnder, IsRefused, PartChosen, WholeChosen, grown}
 use Rattle.lp_program.specs.Nearby.{Like, OfLike}
 use Rattle.lp_program.specs.Prefixes.{ShowsPrefix}
+use Rattle.lp_program.specs.Reads.{is_prefix}
 use Rattle.lp_program.specs.Trees.{Content, Forest, whole}
 use Rattle.lp_program.specs.Trees.Forest.{bare, tree}
 use Rattle.lp_program.proofs.Adding.{whole_one}
 use Rattle.lp_program.proofs.Answering.{answers_yes, answers_no, none_as}
 use Rattle.lp_program.proofs.Chosen.{part_once}
 use Rattle.lp_program.proofs.Grafts.{holds_alone}
-use Rattle.lp_program.proofs.Nearby.{moves_same, moves_then}
-use Rattle.lp_program.proofs.Prefixes.{prefix_once}
+use Rattle.lp_program.proofs.Nearby.{like_first, moves_same, moves_then}
+use Rattle.lp_program.proofs.Prefixes.{numbers_fit, prefix_once, shows_none}
+use Rattle.lp_program.proofs.Showing.{chosen_shows}
 
 -- no part, and so no program
 pub whole_not : (a : Reader) (read : Bool) (b : Reader) → read ≡ false → AnswersTrees (PartChosen 16 a.prefix.now part.Program) a read b → NoneRead (WholeChosen a.prefix.now) a b
@@ -75,17 +78,47 @@ program_chosen text old read new program all x none like prefix entries shows =
       reads = subst (λ (w : Forest). WholeChosen program.prefix w text z.0) (sym is) (subst (λ (p : List ℕ). WholeChosen p y.forest text z.0) (sym prefix) z.1);
     }
 
--- no program, whatever prefix the text shows, if any
-pub program_refused : (text other : List ℕ) (old new : Reader) (shown : Option (Bor (List ℕ))) (none : Bor (List ℕ)) → MatchOption shown ((prefix : List ℕ) → ShowsPrefix prefix text → ⊥) (λ x. ShowsPrefix x.now text) →
-    old.prefix ≡ unwrap_or shown none → NoneRead (WholeChosen old.prefix.now) old new → Like new.looked old.cursor other → (program : Program) → ShowsPrefix program.prefix text → IsChosen other program → ⊥
-program_refused text other old new None none exact prefix unread like program shows x = exact program.prefix shows
-program_refused text other old new (Some s) none exact prefix unread like program shows x =
-    let same : program.prefix ≡ old.prefix.now = prefix_once program.prefix s.now text shows exact ∙ sym (ap (λ p. p.now) prefix) in
-    unread.unread new.looked (omega arith) other like (whole program.entries.items) x.rest (subst (λ (p : List ℕ). WholeChosen p (whole program.entries.items) other x.rest) same x.reads)
+-- the prefix that a text shows, or the one that stands for none
+read_under : (text : List ℕ) (shown : Option (Bor (List ℕ))) (none prefix : Bor (List ℕ)) → none.now ≡ codes "__" → MatchOption shown ((p : List ℕ) → ShowsPrefix p text → ⊥) (λ x. ShowsPrefix x.now text) →
+    prefix ≡ unwrap_or shown none → IsReadUnder text prefix.now
+read_under text None none prefix is exact e = inr (ap (λ (p : Bor (List ℕ)). p.now) e ∙ is, exact)
+read_under text (Some s) none prefix is exact e = inl (subst (λ (p : List ℕ). ShowsPrefix p text) (sym (ap (λ (p : Bor (List ℕ)). p.now) e)) exact)
+
+-- no program, under the prefix that the text is read under
+pub program_refused : (text : List ℕ) (old new : Reader) (shown : Option (Bor (List ℕ))) (none : Bor (List ℕ)) → none.now ≡ codes "__" → IsUtf8 text → length text < 2 ^ 64 →
+    MatchOption shown ((p : List ℕ) → ShowsPrefix p text → ⊥) (λ x. ShowsPrefix x.now text) → old.prefix ≡ unwrap_or shown none → NoneRead (WholeChosen old.prefix.now) old new →
+    old.cursor.text.now ≡ text → left old.cursor ≡ text → IsRefused text (fault.NoForm new.looked)
+program_refused text old new shown none is u size exact prefix unread same all numbers = (
+  old.prefix.now,
+  read_under text shown none old.prefix is exact prefix,
+  λ other v lines program e x.
+      let like = like_first new.looked old.cursor text other same all u size (numbers_fit text size numbers) v lines in
+      let reads : WholeChosen old.prefix.now (whole program.entries.items) other x.rest = subst (λ (p : List ℕ). WholeChosen p (whole program.entries.items) other x.rest) e x.reads in
+      unread.unread new.looked (omega arith) other like (whole program.entries.items) x.rest reads,
+)
+
+-- nothing is read under the prefix that stands for none, where none is shown
+pub none_shown : (text : List ℕ) (old : Reader) (read : Bool) (new : Reader) (shown : Option (Bor (List ℕ))) (none : Bor (List ℕ)) → none.now ≡ codes "__" → is_prefix none.now ≡ true → IsUtf8 text → length text < 2 ^ 64 →
+    MatchOption shown ((p : List ℕ) → ShowsPrefix p text → ⊥) (λ x. ShowsPrefix x.now text) → shown ≡ None → old.prefix ≡ unwrap_or shown none → read ≡ true → AnswersTrees (WholeChosen old.prefix.now) old read new →
+    old.cursor.text.now ≡ text → left old.cursor ≡ text → IsRefused text (fault.NoForm new.looked)
+none_shown text old read new shown none is fits u size exact nothing prefix all x same whole_left numbers =
+    let y = answers_yes (WholeChosen old.prefix.now) old read new all x in
+    let like = like_first new.looked old.cursor text text same whole_left u size (numbers_fit text size numbers) u refl in
+    let z = y.reads new.looked (omega arith) text like in
+    let at : old.prefix.now ≡ none.now = ap (λ (p : Bor (List ℕ)). p.now) (prefix ∙ ap (λ (o : Option (Bor (List ℕ))). unwrap_or o none) nothing) in
+    let shows : ShowsPrefix none.now text = chosen_shows 16 none.now y.forest text z.0 fits (subst (λ (p : List ℕ). PartChosen 16 p part.Program y.forest text z.0) at z.1.0) in
+    let not : (p : List ℕ) → ShowsPrefix p text → ⊥ = subst (λ (o : Option (Bor (List ℕ))). MatchOption o ((p : List ℕ) → ShowsPrefix p text → ⊥) (λ x. ShowsPrefix x.now text)) nothing exact in
+    absurd (not none.now shows)
 
 pub read_none : (old : Reader) (read : Bool) (new : Reader) → read ≡ false → AnswersTrees (WholeChosen old.prefix.now) old read new → NoneRead (WholeChosen old.prefix.now) old new
 read_none old read new none x = answers_no (WholeChosen old.prefix.now) old read new none x
 
 -- a text that is refused is one with the same lines: no program is chosen in it
 pub refused_itself : (text : List ℕ) (line : ℕ) → IsUtf8 text → IsRefused text (fault.NoForm line) → (program : Program) → IsChosen text program → ⊥
-refused_itself text line u refused program x = refused text u refl program x.shows x
+refused_itself text line u refused program x =
+    let r = refused (λ empty. absurd (shows_none program.prefix text empty x.shows)) in
+    let same : program.prefix ≡ r.0 = elim r.1 [
+      | inl shows ↦ prefix_once program.prefix r.0 text x.shows shows
+      | inr none ↦ absurd (none.1 program.prefix x.shows)
+    ] in
+    r.2 text u refl program same x

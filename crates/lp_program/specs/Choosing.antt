@@ -1,5 +1,5 @@
 -- What a reader reads that looks ahead: it chooses each part by the lines in front, and a hole is told by the first line that has it.
-use Rattle.std.specs.Prelude.{◌≡◌, ℕ, zero, suc, ◌<◌, ◌⊎◌, List, [], ◌∷◌, ◌++◌, length, Option, Some, None, codes}
+use Rattle.std.specs.Prelude.{◌≡◌, ℕ, zero, suc, ◌+◌, ◌^◌, ◌<◌, ◌⊎◌, List, [], ◌∷◌, ◌++◌, length, Option, Some, None, codes}
 use Rattle.std.specs.Option.{MatchOption}
 use Rattle.std.specs.Str.{IsUtf8}
 use Rattle.lp_form.specs.Templates.{steps_of}
@@ -11,7 +11,7 @@ use Rattle.lp_form.specs.declared.part.Part.TheVariants as part
 use Rattle.lp_form.specs.declared.template.Step.{Step}
 use Rattle.lp_form.specs.declared.template.Step.TheVariants as step
 use Rattle.lp_local.specs.Agreeing.{Agree}
-use Rattle.lp_spelling.specs.Counting.{settled, front_line}
+use Rattle.lp_spelling.specs.Counting.{feeds, settled, front_line}
 use Rattle.lp_tree.specs.declared.tree.Program.{Program}
 use Rattle.lp_program.specs.declared.read.reader.Parameters.{Parameters}
 use Rattle.lp_program.specs.declared.read.reader.Parameters.TheVariants as parameters
@@ -153,8 +153,17 @@ pub record IsChosen (text : List ℕ) (program : Program) : Type 0 where
   pub shows : ShowsPrefix program.prefix text
   pub reads : WholeChosen program.prefix (whole program.entries.items) text rest
 
--- why a text isn't read: no program is chosen, under the prefix that it shows, in any text with the same lines up to the one that is named; but where memory is wanting
+-- under which prefix a text is read: the one that it shows, or `__`, where it shows none
+abbrev pub IsReadUnder : List ℕ → List ℕ → Type 0
+IsReadUnder text prefix = ShowsPrefix prefix text ⊎ ((prefix ≡ codes "__") × ((shown : List ℕ) → ShowsPrefix shown text → ⊥))
+
+-- the lines of a text have numbers: it has one that counts, or too few to run out of numbers
+abbrev pub HasNumbers : List ℕ → Type 0
+HasNumbers text = settled text ≡ [] → feeds text + 1 < 2 ^ 64
+
+-- why a text isn't read: under its prefix no program is chosen in any text with the same lines up to the one that is named; but where memory is wanting
 abbrev pub IsRefused : List ℕ → ReadFault → Type 0
-IsRefused text (fault.NoForm line) =
-    (other : List ℕ) → IsUtf8 other → Agree line other text → (program : Program) → ShowsPrefix program.prefix text → IsChosen other program → ⊥
+IsRefused text (fault.NoForm line) = HasNumbers text →
+    (prefix : List ℕ) × IsReadUnder text prefix
+    × ((other : List ℕ) → IsUtf8 other → Agree line other text → (program : Program) → program.prefix ≡ prefix → IsChosen other program → ⊥)
 IsRefused text fault.Memory = Unit {0}

@@ -9,7 +9,8 @@ use Rattle.lp_write.specs.Lines.{Line}
 use Rattle.lp_write.specs.Lines.Line.{line, verbatim}
 use Rattle.lp_write.specs.declared.rust.Options.{Options}
 use Rattle.lp_spelling.specs.Lines.{line_of}
-use Rattle.lp_program.specs.Trees.{Content, Note}
+use Rattle.lp_tree.specs.ProgramTree.{Note}
+use Rattle.lp_program.specs.Trees.{Content}
 use Rattle.lp_program.specs.TableRows.{table_lines}
 
 -- what a hole holds; nothing where there is none

@@ -6,7 +6,7 @@ use Rattle.lp_write.specs.Lines.{Line}
 use Rattle.lp_write.specs.Lines.Line.{line, verbatim}
 use Rattle.lp_write.specs.Rows.{row_text}
 use Rattle.lp_write.specs.declared.rust.Options.{Options}
-use Rattle.lp_program.specs.Trees.{Note}
+use Rattle.lp_tree.specs.ProgramTree.{Note}
 
 -- an entry with its comment as it stands behind the code's reference
 abbrev pub row_entry : ℤ × Bor (List ℕ) → ℤ × List ℕ

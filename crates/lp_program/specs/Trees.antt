@@ -1,18 +1,8 @@
 -- The trees of a list of parts, and what each part holds.
-use Rattle.std.specs.Prelude.{ℕ, zero, suc, ◌+◌, ℤ, List, [], ◌∷◌, length, map, take, drop}
+use Rattle.std.specs.Prelude.{ℕ, zero, suc, ◌+◌, ℤ, List, [], ◌∷◌, length, take, drop}
 use Rattle.lp_form.specs.declared.part.Part.{Part}
 use Rattle.lp_tree.specs.declared.tree.Entry.{Entry}
-use Rattle.lp_tree.specs.declared.tree.RowNote.{RowNote}
-
--- the comments of a table row or of one line: how many entries stand in this row and those before it,
--- the comment lines before it, and what stands after each entry
-pub record Note : Type 0 where
-  pub end : ℕ
-  pub lines : List (List ℕ)
-  pub comments : List (List ℕ)
-
-abbrev pub note : RowNote → Note
-note n = record { end = n.end; lines = n.lines.items; comments = n.comments.items }
+use Rattle.lp_tree.specs.ProgramTree.{Note, entry_notes}
 
 -- what a part holds: the texts of its holes, the entries of its table, and its notes
 pub record Content : Type 0 where
@@ -22,7 +12,7 @@ pub record Content : Type 0 where
   pub notes : List Note
 
 abbrev pub content : Entry → Content
-content e = record { part = e.part; holes = e.holes.items; numbers = e.numbers.items; notes = map note e.notes.items }
+content e = record { part = e.part; holes = e.holes.items; numbers = e.numbers.items; notes = entry_notes e }
 
 -- trees side by side: what the first one's part holds, the trees below it, and those after it
 pub data Forest : Type 0 where

@@ -6,7 +6,8 @@ use denote.RawPtr.{null_ptr}
 use Rattle.lp_tree.specs.declared.tree.Entry.{Entry}
 use Rattle.lp_tree.specs.declared.tree.RowNote.{RowNote}
 use Rattle.lp_tree.specs.declared.tree.Program.{Program}
-use Rattle.lp_program.specs.Trees.{Note, note, Content, content, Forest, forest_within, forest, whole}
+use Rattle.lp_tree.specs.ProgramTree.{Note, noted}
+use Rattle.lp_program.specs.Trees.{Content, content, Forest, forest_within, forest, whole}
 use Rattle.lp_program.specs.Trees.Forest.{bare, tree}
 use Rattle.lp_viable.specs.Held.{IsShort, NoteHeld, ContentHeld, PartsHeld, part_count, IsHeld}
 
@@ -21,7 +22,7 @@ vec_of items short = record { ptr = null_ptr; len = length items; cap = length i
 record Noted (ns : List Note) : Type 0 where
   items : List RowNote
   size : length items ≡ length ns
-  same : map note items ≡ ns
+  same : map noted items ≡ ns
 
 notes_of : (ns : List Note) → All NoteHeld ns → Noted ns
 notes_of [] h = record { items = []; size = refl; same = refl }

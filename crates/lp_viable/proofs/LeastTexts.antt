@@ -21,7 +21,8 @@ use Rattle.lp_found.proofs.Words.{ascii_at}
 use Rattle.lp_program.specs.OwnLines.{hole, note_lines, own_lines}
 use Rattle.lp_program.specs.Reads.{is_prefix, may_have}
 use Rattle.lp_program.specs.TableRows.{commented, row_lines, no_note, rows_from, table_lines}
-use Rattle.lp_program.specs.Trees.{Content, Note}
+use Rattle.lp_tree.specs.ProgramTree.{Note}
+use Rattle.lp_program.specs.Trees.{Content}
 use Rattle.lp_laws.specs.LineTests.{is_sound_line}
 use Rattle.lp_laws.specs.LineTexts.{text_in}
 use Rattle.lp_laws.specs.TemplateTests.{is_class, has_class, exact_after, is_sound_step}

@@ -1,7 +1,8 @@
 -- What a program can hold: each of its lists has fewer than 2^63 items, since a vector has.
 use Rattle.std.specs.Prelude.{ℕ, ◌+◌, ◌^◌, ◌<◌, length}
 use Rattle.std.specs.List.{All}
-use Rattle.lp_program.specs.Trees.{Note, Content, Forest}
+use Rattle.lp_tree.specs.ProgramTree.{Note}
+use Rattle.lp_program.specs.Trees.{Content, Forest}
 use Rattle.lp_program.specs.Trees.Forest.{bare, tree}
 
 -- a length that a vector can have

@@ -4,7 +4,8 @@ ghost use Rattle.std.specs.Prelude.{◌≡◌, ◌++◌, [], ◌∷◌, map, rep
 ghost use Rattle.lp_form.specs.Templates.{piece};
 ghost use Rattle.lp_spelling.specs.Lines.{line_of};
 ghost use Rattle.lp_program.specs.OwnLines.{code_lines, hole, note_lines, own_lines};
-ghost use Rattle.lp_program.specs.Trees.{content, forest, note, tree_count};
+ghost use Rattle.lp_tree.specs.ProgramTree.{noted};
+ghost use Rattle.lp_program.specs.Trees.{content, forest, tree_count};
 ghost use Rattle.lp_write.specs.Lines.Line.{line};
 ghost use Rattle.lp_write.specs.Writes.{options_of, writing, Writes, write_ending};
 
@@ -113,7 +114,7 @@ pub(crate) fn print_texts<W: Sink>(
 
 /// Appends the comment lines of notes.
 fn print_notes<W: Sink>(notes: &[RowNote<'_>], out: &mut RustWrite<W>) -> Result<(), WriteError>
-    ensures { Writes (write_ending result) (writing W.told out.old) (writing W.told out.new) (note_lines (map note notes.now)) }
+    ensures { Writes (write_ending result) (writing W.told out.old) (writing W.told out.new) (note_lines (map noted notes.now)) }
 {
     for note in notes {
         print_texts(note.lines.as_slice(), out)?;
@@ -123,7 +124,7 @@ fn print_notes<W: Sink>(notes: &[RowNote<'_>], out: &mut RustWrite<W>) -> Result
 
 /// Appends the comment lines of notes, with comments on.
 fn print_comments<W: Sink>(notes: &[RowNote<'_>], out: &mut RustWrite<W>) -> Result<(), WriteError>
-    ensures { Writes (write_ending result) (writing W.told out.old) (writing W.told out.new) (if (options_of out.old).comments then note_lines (map note notes.now) else []) }
+    ensures { Writes (write_ending result) (writing W.told out.old) (writing W.told out.new) (if (options_of out.old).comments then note_lines (map noted notes.now) else []) }
 {
     if out.options().comments {
         return print_notes(notes, out);

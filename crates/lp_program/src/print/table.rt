@@ -2,10 +2,10 @@
 
 ghost use Rattle.std.specs.Prelude.{◌≡◌, ◌++◌, [], ◌∷◌, map, get_or, codes, IfOk, if◌then◌else◌};
 ghost use Rattle.std.specs.Fmt.{decimal};
-ghost use Rattle.lp_program.specs.Trees.{note};
 ghost use Rattle.lp_program.specs.TableRows.{commented, entry_lines, last_lines, row_entry, row_lines, table_lines};
 ghost use Rattle.lp_write.specs.Lines.Line.{line};
 ghost use Rattle.lp_write.specs.Writes.{options_of, writing, Writes, write_ending};
+ghost use Rattle.lp_tree.specs.ProgramTree.{noted};
 
 use crate::print::own::{print_line, print_texts};
 use lp_tree::piece::Piece;
@@ -20,7 +20,7 @@ pub(crate) fn print_table<W: Sink>(
     notes: &[RowNote<'_>],
     out: &mut RustWrite<W>,
 ) -> Result<(), WriteError>
-    ensures { Writes (write_ending result) (writing W.told out.old) (writing W.told out.new) (table_lines (options_of out.old) numbers.now (map note notes.now)) }
+    ensures { Writes (write_ending result) (writing W.told out.old) (writing W.told out.new) (table_lines (options_of out.old) numbers.now (map noted notes.now)) }
 {
     let mut from = 0;
     for (i, note) in notes.iter().enumerate() {
@@ -59,7 +59,7 @@ fn print_row<W: Sink>(
     row: &RowNote<'_>,
     out: &mut RustWrite<W>,
 ) -> Result<(), WriteError>
-    ensures { Writes (write_ending result) (writing W.told out.old) (writing W.told out.new) (row_lines (options_of out.old) state numbers.now (note row.now)) }
+    ensures { Writes (write_ending result) (writing W.told out.old) (writing W.told out.new) (row_lines (options_of out.old) state numbers.now (noted row.now)) }
 {
     print_state(alloc, state, out)?;
     print_comment_lines(row.lines.as_slice(), out)?;

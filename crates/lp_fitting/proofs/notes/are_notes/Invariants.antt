@@ -1,7 +1,7 @@
 use Rattle.std.proofs.Common.{take, All}
-use Rattle.lp_program.specs.Trees.{note}
 use Rattle.lp_laws.specs.WellFormed.{IsNote, IsSteady}
 use Rattle.lp_fitting.proofs.notes.are_notes.Given as goal
+use Rattle.lp_tree.specs.ProgramTree.{noted}
 
 abbrev pub invariant-loop-part : goal.invariant-loop-part
-invariant-loop-part l = All (λ part. IsNote (note part) × IsSteady (note part)) (take l.part-index l.notes)
+invariant-loop-part l = All (λ part. IsNote (noted part) × IsSteady (noted part)) (take l.part-index l.notes)

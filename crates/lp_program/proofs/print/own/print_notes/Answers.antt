@@ -4,15 +4,15 @@ use Rattle.std.proofs.lemmas.Result.{err_from_is_err_and}
 use Rattle.lp_write.specs.Lines.Line.{line}
 use Rattle.lp_tree.specs.declared.tree.RowNote.{RowNote}
 use Rattle.lp_program.specs.OwnLines.{note_lines}
-use Rattle.lp_program.specs.Trees.{note}
 use Rattle.lp_program.proofs.Progress.{left-more, left-stopped}
 use Rattle.lp_program.proofs.print.own.print_notes.Goals as goal
+use Rattle.lp_tree.specs.ProgramTree.{noted}
 
 notes-next : (notes : List RowNote) (i : ℕ) (n : RowNote) → n ≡ get_or notes i n → i < length notes →
-    note_lines (map note (drop i notes)) ≡ map line n.lines.items ++ note_lines (map note (drop (i + 1) notes))
+    note_lines (map noted (drop i notes)) ≡ map line n.lines.items ++ note_lines (map noted (drop (i + 1) notes))
 notes-next notes i n e h =
-    at_drop_more (λ l. note_lines (map note l)) notes i n h
-    ∙ ap (λ m. map line m.lines.items ++ note_lines (map note (drop (i + 1) notes))) (sym e)
+    at_drop_more (λ l. note_lines (map noted l)) notes i n h
+    ∙ ap (λ m. map line m.lines.items ++ note_lines (map noted (drop (i + 1) notes))) (sym e)
 
 pub returns-in_err-print_texts : goal.returns-in_err-print_texts
 returns-in_err-print_texts g c =

@@ -7,7 +7,7 @@ use Rattle.lp_program.proofs.Adding.{program_read}
 use Rattle.lp_program.proofs.Nearby.{like_first}
 use Rattle.lp_program.proofs.Prefixes.{shows_counted}
 use Rattle.lp_program.proofs.ProgramBegun.{no_prefix_fits, no_prefix_utf8, prefix_told, program_begun}
-use Rattle.lp_program.proofs.Whole.{program_chosen, program_refused, read_none}
+use Rattle.lp_program.proofs.Whole.{none_shown, program_chosen, program_refused, read_none}
 use Rattle.lp_program.proofs.read.reader.read_program.Goals as goal
 
 pub returns-clause-reads : goal.returns-clause-reads
@@ -30,16 +30,18 @@ returns-clause-chosen c =
     (prefix ∙ sym (ap (λ p. p.now) got)) refl (subst (λ (p : List ℕ). ShowsPrefix p text) (sym prefix) shows)
 
 pub returns-then-not-branch-clause-refused : goal.returns-then-not-branch-clause-refused
-returns-then-not-branch-clause-refused c = λ other u lines program shows.
+returns-then-not-branch-clause-refused c =
     let text = c.args.text.now in
     let old : Reader = record { alloc = c.args.alloc; prefix = c.unwrap_or.result; cursor = c.new.result; looked = 0; entries = c.new-2.result } in
-    let count = shows_counted program.prefix text c.prefix_of-shown.ensures.size shows in
-    program_refused text other old c.read_whole.new.self c.prefix_of-shown.result _ c.prefix_of-shown.ensures.exact c.unwrap_or.ensures
-    (read_none old _ c.read_whole.new.self c.if-not-branch.true c.in_ok-read_whole.ensures.chosen)
-    (like_first c.read_whole.new.self.looked c.new.result text other c.new.ensures.text c.new.ensures.rest c.utf8.text c.prefix_of-shown.ensures.size count u lines) program shows
+    program_refused text old c.read_whole.new.self c.prefix_of-shown.result _ refl c.utf8.text c.prefix_of-shown.ensures.size c.prefix_of-shown.ensures.exact c.unwrap_or.ensures
+    (read_none old _ c.read_whole.new.self c.if-not-branch.true c.in_ok-read_whole.ensures.chosen) c.new.ensures.text c.new.ensures.rest
 
 pub returns-in_default-clause-refused : goal.returns-in_default-clause-refused
-returns-in_default-clause-refused c = λ other u lines program shows x. (rw c.in_default.is at c.prefix_of-shown.ensures.exact) program.prefix shows
+returns-in_default-clause-refused c =
+    let text = c.args.text.now in
+    let old : Reader = record { alloc = c.args.alloc; prefix = c.unwrap_or.result; cursor = c.new.result; looked = 0; entries = c.new-2.result } in
+    none_shown text old _ c.read_whole.new.self c.prefix_of-shown.result _ refl no_prefix_fits c.utf8.text c.prefix_of-shown.ensures.size c.prefix_of-shown.ensures.exact c.in_default.is c.unwrap_or.ensures
+    c.if-not-branch.false c.in_ok-read_whole.ensures.chosen c.new.ensures.text c.new.ensures.rest
 
 -- what the lines begin that were looked at
 pub returns-then-not-branch-clause-begun : goal.returns-then-not-branch-clause-begun
