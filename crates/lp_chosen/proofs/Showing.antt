@@ -25,7 +25,7 @@ use Rattle.lp_program.specs.Trees.Forest.{bare, tree}
 use Rattle.lp_shown.proofs.Parts.{member_place}
 use Rattle.lp_program.specs.Prefixes.{renaming, renamed, ShowsPrefix}
 use Rattle.lp_program.specs.Prefixes.ShowsPrefix.{shown, behind_use, behind_line}
-use Rattle.lp_program.proofs.Showing.{attribute_steps, use_steps, first_line, second_line, standard_steps, program_steps, hash_line, attribute_kind, attribute_fills, attribute_line, first_spelled, second_spelled}
+use Rattle.lp_program.proofs.Showing.{attribute_steps, use_steps, first_line, second_line, standard_steps, program_steps, attribute_alone, use_alone, standard_alone, hash_line, attribute_kind, attribute_fills, attribute_line, first_spelled, second_spelled}
 use Rattle.lp_chosen.proofs.Following.{front_utf8, settled_follows, line_follows, use_follows, behind_byte, front_of_byte}
 use Rattle.lp_chosen.proofs.Taking.{task_takes}
 use Rattle.lp_chosen.proofs.Made.{made, no_trees}
@@ -51,17 +51,14 @@ alone class p q e n m =
     let first : at.0 ≡ 0 = omega (arith, lt, n) in
     at.2 ∙ ap (λ i. member class i) first ∙ e
 
-attribute_is : (p : Part) → is_member class_of.Attribute p ≡ true → p ≡ part.Attribute
-unfolding members_of
-attribute_is p m = alone class_of.Attribute p part.Attribute refl refl m
+pub attribute_is : (p : Part) → is_member class_of.Attribute p ≡ true → p ≡ part.Attribute
+attribute_is p m = alone class_of.Attribute p part.Attribute attribute_alone.0 attribute_alone.1 m
 
-use_is : (p : Part) → is_member class_of.Use p ≡ true → p ≡ part.UseLine
-unfolding members_of
-use_is p m = alone class_of.Use p part.UseLine refl refl m
+pub use_is : (p : Part) → is_member class_of.Use p ≡ true → p ≡ part.UseLine
+use_is p m = alone class_of.Use p part.UseLine use_alone.0 use_alone.1 m
 
-standard_is : (p : Part) → is_member class_of.StandardUses p ≡ true → p ≡ part.StandardUses
-unfolding members_of
-standard_is p m = alone class_of.StandardUses p part.StandardUses refl refl m
+pub standard_is : (p : Part) → is_member class_of.StandardUses p ≡ true → p ≡ part.StandardUses
+standard_is p m = alone class_of.StandardUses p part.StandardUses standard_alone.0 standard_alone.1 m
 
 -- an attribute begins with `#`
 one_kind : 0 < length (holes_of part.Attribute)

@@ -23,3 +23,9 @@ pub mod Entries
 pub mod Lean
 pub mod Sizes
 pub mod Viable
+pub mod Leaves
+pub mod Opening
+pub mod Rest
+pub mod Restarted
+pub mod LinesPassed
+pub mod Dead

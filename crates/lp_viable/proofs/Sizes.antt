@@ -298,7 +298,7 @@ unfolding steps_of holes_of
 few_holes part.Program = refl
 few_holes _ = refl
 
-count_graft : (f g : Forest) → part_count (graft f g) ≡ part_count f + part_count g
+pub count_graft : (f g : Forest) → part_count (graft f g) ≡ part_count f + part_count g
 unfolding part_count
 count_graft bare g = omega arith
 count_graft (tree c below after) g = let h = count_graft after g in omega (arith, h)

@@ -3,3 +3,4 @@ pub mod Least
 pub mod StepTests
 pub mod Held
 pub mod Viable
+pub mod Dead
