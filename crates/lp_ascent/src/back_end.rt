@@ -12,7 +12,7 @@ use lp_tree::Node;
 use std::alloc::{AllocError, Global};
 
 /// Recursive ascent.
-#[derive(Clone, Copy, Debug)]
+#[derive(Clone, Copy)]
 pub struct AscentBackEnd;
 
 impl BackEnd for AscentBackEnd {

@@ -16,7 +16,7 @@ use std::collections::BTreeMap;
 
 /// The symbols whose values a state's function is handed, the deepest first. The last ones are
 /// fixed: they are handed over by value. The others are optional: a callee may have taken them.
-#[derive(Clone, Copy, Debug)]
+#[derive(Clone, Copy)]
 pub struct Slots<'g> {
     pub symbols: &'g [Symbol],
     /// How many are fixed.

@@ -9,7 +9,7 @@ use lp_repr::repr::{Grammar, NonterminalString};
 use std::fmt;
 
 /// A visibility: nothing, that of a start, or `pub`.
-#[derive(Clone, Copy, Debug, PartialEq, Eq)]
+#[derive(Clone, Copy)]
 pub enum Shared<'g> {
     Private,
     Start(&'g Visibility),

@@ -17,7 +17,7 @@ use std::alloc::{AllocError, Global};
 use std::marker::Model;
 
 /// A printed state type.
-#[derive(Clone, Copy, Debug, PartialEq, Eq)]
+#[derive(Clone, Copy)]
 pub enum StateType {
     I8,
     I16,
@@ -49,7 +49,7 @@ fn within(number: i64, low: i32, high: i32) -> Option<i32>
 }
 
 /// What a value with parts is.
-#[derive(Clone, Copy, Debug, PartialEq, Eq)]
+#[derive(Clone, Copy, PartialEq, Eq)]
 pub enum Tag {
     Tuple,
     List,
@@ -67,7 +67,7 @@ pub enum Tag {
 }
 
 /// A value without parts.
-#[derive(Debug, Drop)]
+#[derive(Drop)]
 pub enum Atom {
     /// Of a name that has no value yet.
     Unset,

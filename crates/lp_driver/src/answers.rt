@@ -3,7 +3,7 @@
 use std::alloc::{AllocError, AllocFailed};
 
 /// Why a call gives no answer.
-#[derive(Clone, Copy, Debug, PartialEq, Eq)]
+#[derive(Clone, Copy)]
 pub enum Stop {
     /// It had no steps left.
     Spent,
@@ -13,7 +13,7 @@ pub enum Stop {
 }
 
 /// Which terminals an expected list has.
-#[derive(Clone, Copy, Debug, PartialEq, Eq)]
+#[derive(Clone, Copy)]
 pub enum Expecting {
     /// Those whose trial on the stack of states says yes.
     Trial,
@@ -22,7 +22,7 @@ pub enum Expecting {
 }
 
 /// What a reduction would do.
-#[derive(Clone, Copy, Debug, PartialEq, Eq)]
+#[derive(Clone, Copy)]
 pub enum Simulated {
     /// Take off so many states, and go on with this nonterminal.
     Reduce { pop: usize, nonterminal: usize },
@@ -31,7 +31,7 @@ pub enum Simulated {
 }
 
 /// Why there is no run.
-#[derive(Clone, Copy, Debug, PartialEq, Eq)]
+#[derive(Clone, Copy)]
 pub enum RunError {
     /// No start has that public name.
     NoStart,

@@ -1,7 +1,7 @@
 //! Classes of parts: what may stand at one place of a form.
 
 /// A class of parts.
-#[derive(Clone, Copy, Debug, PartialEq, Eq)]
+#[derive(Clone, Copy)]
 pub enum Class {
     Use,
     Module,

@@ -7,7 +7,7 @@ use crate::kind::FormKind;
 
 /// A part of a program: a printed form in one of its spellings, a row of a list, or one of several
 /// alternative lines.
-#[derive(Clone, Copy, Debug, PartialEq, Eq)]
+#[derive(Clone, Copy, PartialEq, Eq)]
 pub enum Part {
     /// The whole text.
     Program,

@@ -3,7 +3,7 @@
 use crate::class::Class;
 
 /// What a hole holds.
-#[derive(Clone, Copy, Debug, PartialEq, Eq)]
+#[derive(Clone, Copy)]
 pub enum Kind {
     /// A name, or `&` and a name.
     Argument,
@@ -58,7 +58,7 @@ pub enum Kind {
 }
 
 /// What follows a literal text on a line: nothing, the prefix of the program, or a hole by number.
-#[derive(Clone, Copy, Debug, PartialEq, Eq)]
+#[derive(Clone, Copy)]
 pub enum Slot {
     Nothing,
     Prefix,
@@ -69,7 +69,7 @@ pub enum Slot {
 pub type Piece = (&'static str, Slot);
 
 /// A step of a template.
-#[derive(Clone, Copy, Debug, PartialEq, Eq)]
+#[derive(Clone, Copy)]
 pub enum Step {
     /// One line, printed with so many blanks in front.
     Line(u8),

@@ -19,7 +19,7 @@ pub const MOST_LINES: usize = 64;
 pub const MOST_BUDGET: u64 = 1_000_000;
 
 /// A token line that was read.
-#[derive(Debug, PartialEq, Eq, Drop)]
+#[derive(Drop)]
 pub struct TokenLine {
     /// A public name.
     pub start: Text,
@@ -32,7 +32,7 @@ pub struct TokenLine {
 }
 
 /// Why token lines aren't read.
-#[derive(Clone, Copy, Debug, PartialEq, Eq)]
+#[derive(Clone, Copy)]
 pub enum LineFault {
     /// This line, counted from 1, is the first that fits no token line.
     Line { line: usize },

@@ -16,7 +16,7 @@ use lp_repr::values::{Loc, RunItem, TokenValue};
 use std::alloc::{AllocError, Global};
 
 /// The form of a terminal's tokens, and how many payloads they have.
-#[derive(Debug, Drop)]
+#[derive(Drop)]
 pub struct Form {
     /// The pattern's text with `_` in the holes.
     pub text: Text,
@@ -24,7 +24,7 @@ pub struct Form {
 }
 
 /// What token lines may name.
-#[derive(Debug, Drop)]
+#[derive(Drop)]
 pub struct Vocabulary {
     /// The grammar has a location type.
     pub located: bool,

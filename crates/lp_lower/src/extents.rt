@@ -19,7 +19,7 @@ const MOST_SYMBOLS: usize = 1_048_576;
 
 /// How many expanded alternatives there are, and how many symbols they have together. A number
 /// that would pass the greatest one stays there.
-#[derive(Clone, Copy, Debug, PartialEq, Eq)]
+#[derive(Clone, Copy)]
 pub struct Extent {
     pub alternatives: usize,
     pub symbols: usize,

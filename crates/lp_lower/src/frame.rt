@@ -12,7 +12,7 @@ use std::alloc::{AllocError, Global};
 
 /// Which symbols of their own kind are used, the numbers of the lookarounds' actions, and the
 /// number of the rules' first action.
-#[derive(Clone, Copy, Debug, PartialEq, Eq)]
+#[derive(Clone, Copy)]
 pub struct Frame {
     pub uses_lookahead: bool,
     pub uses_lookbehind: bool,

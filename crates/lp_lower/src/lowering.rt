@@ -25,7 +25,7 @@ use lp_syntax::PlainGrammar;
 use std::alloc::{AllocError, Global};
 
 /// Why a plain grammar isn't lowered. Places are bytes of its file.
-#[derive(Clone, Copy, Debug, PartialEq, Eq)]
+#[derive(Clone, Copy)]
 pub enum LowerFault {
     /// The symbol here is neither a rule nor a terminal.
     UnknownName { place: usize },

@@ -79,7 +79,7 @@ fn symbol(alloc: Global, word: &str, place: usize) -> Result<PlainSymbol, AllocE
 }
 
 /// How a rule stands.
-#[derive(Clone, Copy, PartialEq, Eq)]
+#[derive(Clone, Copy)]
 enum How {
     Public,
     Inline,

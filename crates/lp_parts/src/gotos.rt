@@ -11,21 +11,21 @@ use lp_repr::{Items, Lr1State};
 use std::alloc::{AllocError, Global};
 
 /// Consecutive states, both ends among them.
-#[derive(Clone, Copy, Debug, PartialEq, Eq)]
+#[derive(Clone, Copy)]
 pub struct StateRange {
     pub first: usize,
     pub last: usize,
 }
 
 /// The states that go to one target, in ascending order.
-#[derive(Debug, Drop)]
+#[derive(Drop)]
 pub struct GotoArm {
     pub target: usize,
     pub ranges: Items<StateRange>,
 }
 
 /// What the goto function does on a nonterminal.
-#[derive(Debug, Drop)]
+#[derive(Drop)]
 pub enum Gotos {
     /// No state has a goto on it.
     Nowhere,

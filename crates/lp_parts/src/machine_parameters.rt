@@ -17,7 +17,7 @@ use std::alloc::{AllocError, Global};
 
 /// The parameters of a grammar as fields of a struct: each reference without a lifetime has one of
 /// its own, with a clause for each variable of its referent.
-#[derive(Debug, Drop)]
+#[derive(Drop)]
 pub struct MachineParameters {
     /// Lifetimes first.
     pub type_parameters: Items<TypeParameter>,

@@ -21,7 +21,7 @@ use std::alloc::{AllocError, Global};
 use std::collections::BTreeMap;
 
 /// The types of locations, tokens and errors, and what is made of them.
-#[derive(Debug, Drop)]
+#[derive(Drop)]
 pub struct TypeTexts {
     pub location: String,
     pub token: String,
@@ -210,7 +210,7 @@ fn clause_list(alloc: Global, clauses: &[&WhereClause]) -> Result<String, AllocE
 }
 
 /// How the parameters of a grammar are declared, named and handed on.
-#[derive(Debug, Drop)]
+#[derive(Drop)]
 pub struct ParameterTexts {
     /// Each type parameter and `, `.
     pub type_parameters: String,
@@ -249,7 +249,7 @@ impl ParameterTexts {
 }
 
 /// The type parameters and clauses of the state machine, each joined by `, `.
-#[derive(Debug, Drop)]
+#[derive(Drop)]
 pub struct MachineTexts {
     pub parameters: String,
     pub clauses: String,

@@ -19,7 +19,7 @@ pub struct Front {
 }
 
 /// Why a source gives no grammar with its states, in the order of the checks.
-#[derive(Debug, PartialEq, Eq, Drop)]
+#[derive(Drop)]
 pub enum FrontFault {
     /// A read failed; the source's count of faults rose.
     ReadFault,

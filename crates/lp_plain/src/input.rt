@@ -10,7 +10,7 @@ use std::alloc::{AllocError, Global};
 pub const LIMIT: usize = 16_777_216;
 
 /// Why the input isn't there.
-#[derive(Clone, Copy, Debug, PartialEq, Eq)]
+#[derive(Clone, Copy)]
 pub enum ReadError {
     /// A read failed; the source's count of faults rose.
     Fault,

@@ -10,7 +10,7 @@ use std::alloc::Global;
 use std::str;
 
 /// Why bytes spell no plain grammar.
-#[derive(Clone, Copy, Debug, PartialEq, Eq)]
+#[derive(Clone, Copy)]
 pub enum BytesFault {
     /// They spell none. The place is that of the error, or the first byte of no character.
     Grammar { place: usize },

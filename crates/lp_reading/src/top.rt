@@ -19,7 +19,7 @@ use lp_types::{PlainError, Read, Reader, Tokens};
 use std::alloc::Global;
 
 /// What a text is read as.
-#[derive(Debug, Drop)]
+#[derive(Drop)]
 pub enum Top {
     Grammar(PlainGrammar),
     Pattern(TokenPattern),
@@ -28,7 +28,7 @@ pub enum Top {
 }
 
 /// What a first token asks for.
-#[derive(Clone, Copy, PartialEq, Eq)]
+#[derive(Clone, Copy)]
 enum Wanted {
     File,
     Pattern,

@@ -13,7 +13,7 @@ use std::fmt;
 use std::fmt::Display;
 
 /// What a parser may see next.
-#[derive(Clone, Copy, Debug, PartialEq, Eq, PartialOrd, Ord)]
+#[derive(Clone, Copy, PartialEq, Eq, PartialOrd, Ord)]
 pub enum Token {
     Terminal(usize),
     /// The end of input.
@@ -21,7 +21,7 @@ pub enum Token {
 }
 
 /// A production with a dot before one of its symbols or at its end, and what may follow it.
-#[derive(Clone, Debug, PartialEq, Eq, Drop)]
+#[derive(Clone, Drop)]
 pub struct Item {
     pub production: usize,
     /// How many symbols stand before the dot.
@@ -30,7 +30,7 @@ pub struct Item {
 }
 
 /// A state of the LR(1) automaton: its items, and what is done there on each symbol.
-#[derive(Debug, Drop)]
+#[derive(Drop)]
 pub struct Lr1State {
     pub items: Items<Item>,
     /// From a terminal to the state that it is shifted to.
@@ -42,7 +42,7 @@ pub struct Lr1State {
 }
 
 /// The states of one start.
-#[derive(Debug, Drop)]
+#[derive(Drop)]
 pub struct StartStates {
     /// The public name.
     pub start: NonterminalString,

@@ -16,14 +16,14 @@ use std::alloc::{AllocError, Global};
 use std::collections::BTreeMap;
 
 /// A symbol by its number.
-#[derive(Clone, Copy, Debug, PartialEq, Eq, PartialOrd, Ord)]
+#[derive(Clone, Copy, PartialEq, Eq, PartialOrd, Ord)]
 pub enum SymbolNumber {
     Terminal(usize),
     Nonterminal(usize),
 }
 
 /// A production by numbers.
-#[derive(Debug, PartialEq, Eq, Drop)]
+#[derive(Drop)]
 pub struct Rule {
     pub left: usize,
     pub right: Items<SymbolNumber>,
@@ -106,7 +106,7 @@ fn by_name<T: Ord + Clone + Drop>(
 }
 
 /// The numbers of a grammar's nonterminals and terminals, each found in logarithmic time.
-#[derive(Debug, Drop)]
+#[derive(Drop)]
 pub struct Numbers<'g> {
     /// The grammar whose names are numbered.
     pub grammar: &'g Grammar,

@@ -11,28 +11,28 @@ use std::fmt;
 use std::fmt::Display;
 
 /// A path, as `a::b`; an absolute one begins with `::`.
-#[derive(Clone, Debug, PartialEq, Eq, PartialOrd, Ord, Drop)]
+#[derive(Clone, PartialEq, Eq, PartialOrd, Ord, Drop)]
 pub struct Path {
     pub absolute: bool,
     pub ids: Items<Text>,
 }
 
 /// A type parameter of a grammar. A lifetime's text has its `'`.
-#[derive(Clone, Debug, PartialEq, Eq, PartialOrd, Ord, Drop)]
+#[derive(Clone, PartialEq, Eq, PartialOrd, Ord, Drop)]
 pub enum TypeParameter {
     Lifetime(Text),
     Id(Text),
 }
 
 /// `pub`, `pub(path)` or nothing.
-#[derive(Clone, Debug, PartialEq, Eq, Drop)]
+#[derive(Clone, PartialEq, Eq, Drop)]
 pub enum Visibility {
     Pub(Option<Path>),
     Priv,
 }
 
 /// A bound of a type.
-#[derive(Clone, Debug, PartialEq, Eq, PartialOrd, Ord, Drop)]
+#[derive(Clone, Drop)]
 pub enum TypeBound<T> {
     Lifetime(Text),
     Fn {
@@ -49,7 +49,7 @@ pub enum TypeBound<T> {
 }
 
 /// An argument of a bound's path.
-#[derive(Clone, Debug, PartialEq, Eq, PartialOrd, Ord, Drop)]
+#[derive(Clone, Drop)]
 pub enum TypeBoundParameter<T> {
     Lifetime(Text),
     TypeParameter(T),
@@ -57,7 +57,7 @@ pub enum TypeBoundParameter<T> {
 }
 
 /// A where clause as a grammar file has it.
-#[derive(Clone, Debug, PartialEq, Eq, Drop)]
+#[derive(Clone, Drop)]
 pub enum WhereClause<T> {
     Lifetime {
         lifetime: Text,

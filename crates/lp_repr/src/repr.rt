@@ -16,7 +16,7 @@ use std::fmt::Display;
 
 /// A lowered grammar: productions over terminals and nonterminals, and the actions of their
 /// reductions.
-#[derive(Debug, Drop)]
+#[derive(Drop)]
 pub struct Grammar {
     /// In front of each name that the emitted text makes itself.
     pub prefix: Text,
@@ -43,14 +43,14 @@ pub struct Grammar {
 }
 
 /// How the tables are made, and which code.
-#[derive(Clone, Copy, Debug, PartialEq, Eq)]
+#[derive(Clone, Copy)]
 pub struct Algorithm {
     pub lalr: bool,
     pub codegen: LrCodeGeneration,
 }
 
 /// Which back end writes the parsers; `TestAll` is both side by side, for tests of the back ends.
-#[derive(Clone, Copy, Debug, PartialEq, Eq)]
+#[derive(Clone, Copy)]
 pub enum LrCodeGeneration {
     TableDriven,
     RecursiveAscent,
@@ -59,11 +59,11 @@ pub enum LrCodeGeneration {
 
 /// The name of a nonterminal. Inlined and generated ones have the names that the grammar printed them
 /// with, such as `("," T)*`.
-#[derive(Clone, Debug, PartialEq, Eq, PartialOrd, Ord, Drop)]
+#[derive(Clone, PartialEq, Eq, PartialOrd, Ord, Drop)]
 pub struct NonterminalString(pub Text);
 
 /// A terminal as the grammar writes it.
-#[derive(Clone, Debug, PartialEq, Eq, PartialOrd, Ord, Drop)]
+#[derive(Clone, PartialEq, Eq, PartialOrd, Ord, Drop)]
 pub enum TerminalString {
     /// A string literal, without its quotes and with its escapes applied.
     Quoted(Text),
@@ -73,28 +73,28 @@ pub enum TerminalString {
 }
 
 /// What a production is made of.
-#[derive(Clone, Debug, PartialEq, Eq, PartialOrd, Ord, Drop)]
+#[derive(Clone, PartialEq, Eq, PartialOrd, Ord, Drop)]
 pub enum Symbol {
     Nonterminal(NonterminalString),
     Terminal(TerminalString),
 }
 
 /// The terminals by number; the error terminal is the last where it is used.
-#[derive(Debug, PartialEq, Eq, Drop)]
+#[derive(Drop)]
 pub struct TerminalSet {
     pub all: Items<TerminalString>,
 }
 
 /// A nonterminal that the grammar defines: who may call its parser where it is a start, and its
 /// productions in the order of the grammar.
-#[derive(Debug, PartialEq, Eq, Drop)]
+#[derive(Drop)]
 pub struct NonterminalData {
     pub visibility: Visibility,
     pub productions: Items<Production>,
 }
 
 /// `nonterminal = symbols`: a way to derive a nonterminal, and the action that makes its value.
-#[derive(Clone, Debug, PartialEq, Eq, Drop)]
+#[derive(Clone, Drop)]
 pub struct Production {
     pub nonterminal: NonterminalString,
     pub symbols: Items<Symbol>,
@@ -103,7 +103,7 @@ pub struct Production {
 }
 
 /// A parameter of the emitted parsers.
-#[derive(Clone, Debug, PartialEq, Eq, Drop)]
+#[derive(Clone, Drop)]
 pub struct Parameter {
     pub name: Text,
     pub ty: TypeRepr,
@@ -111,20 +111,20 @@ pub struct Parameter {
 
 /// The generated lexer: the regular expressions of its tokens, the earlier winning over the later where
 /// both match as much.
-#[derive(Debug, PartialEq, Eq, Drop)]
+#[derive(Drop)]
 pub struct InternToken {
     pub match_entries: Items<MatchEntry>,
 }
 
 /// A regular expression of a token, and whether its matches are skipped.
-#[derive(Debug, PartialEq, Eq, Drop)]
+#[derive(Drop)]
 pub struct MatchEntry {
     pub regex: Text,
     pub skip: bool,
 }
 
 /// An action: what a reduction calls.
-#[derive(Debug, PartialEq, Eq, Drop)]
+#[derive(Drop)]
 pub struct ActionFnDefn {
     pub fallible: bool,
     pub ret_type: TypeRepr,
@@ -132,7 +132,7 @@ pub struct ActionFnDefn {
 }
 
 /// What an action function does.
-#[derive(Debug, PartialEq, Eq, Drop)]
+#[derive(Drop)]
 pub enum ActionFnDefnKind {
     /// User code over the values of its symbols.
     User {
@@ -151,14 +151,14 @@ pub enum ActionFnDefnKind {
 
 /// Which location a lookaround answers: `@L` is the start of the lookahead, `@R` the end of the token
 /// before it.
-#[derive(Clone, Copy, Debug, PartialEq, Eq)]
+#[derive(Clone, Copy)]
 pub enum LookaroundActionFn {
     Lookahead,
     Lookbehind,
 }
 
 /// A symbol of an action that inlines others: one of the production itself, or the value of an action.
-#[derive(Debug, PartialEq, Eq, Drop)]
+#[derive(Drop)]
 pub enum InlinedSymbol {
     Original(Symbol),
     /// An action that runs first, on these symbols.
@@ -166,7 +166,7 @@ pub enum InlinedSymbol {
 }
 
 /// The types of the symbols, of locations, tokens and errors.
-#[derive(Debug, Drop)]
+#[derive(Drop)]
 pub struct Types {
     pub loc: Option<TypeRepr>,
     pub token: TypeRepr,
@@ -176,7 +176,7 @@ pub struct Types {
 }
 
 /// A pattern of a token: pieces of text, with a hole between each two.
-#[derive(Clone, Debug, PartialEq, Eq, Drop)]
+#[derive(Clone, Drop)]
 pub struct TokenPattern {
     pub pieces: Items<Text>,
     /// The types of what the holes capture.
@@ -184,7 +184,7 @@ pub struct TokenPattern {
 }
 
 /// A type of Rust.
-#[derive(Debug, PartialEq, Eq, PartialOrd, Ord, Drop)]
+#[derive(PartialEq, Eq, PartialOrd, Ord, Drop)]
 #[cycle(types)]
 pub enum TypeRepr {
     Tuple(Vec<TypeRepr>),
@@ -210,7 +210,7 @@ pub enum TypeRepr {
 }
 
 /// A path with its arguments.
-#[derive(Debug, PartialEq, Eq, PartialOrd, Ord, Drop)]
+#[derive(PartialEq, Eq, PartialOrd, Ord, Drop)]
 #[cycle(types)]
 pub struct NominalTypeRepr {
     pub path: Path,
@@ -218,7 +218,7 @@ pub struct NominalTypeRepr {
 }
 
 /// One bound of a type or a lifetime.
-#[derive(Debug, PartialEq, Eq, Drop)]
+#[derive(Drop)]
 pub enum WhereClause {
     Forall {
         binder: Vec<TypeParameter>,

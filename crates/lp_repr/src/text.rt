@@ -9,7 +9,7 @@ use std::fmt;
 use std::marker::Model;
 
 /// A text, which contracts see as its bytes.
-#[derive(Debug, Drop)]
+#[derive(Drop)]
 pub struct Text(pub String);
 
 impl Model for Text {
@@ -113,7 +113,7 @@ impl Shown for Text {
 }
 
 /// A list, which contracts see as its elements.
-#[derive(Debug, Drop)]
+#[derive(Drop)]
 pub struct Items<T>(pub Vec<T>);
 
 impl<T> Model for Items<T> {

@@ -13,7 +13,7 @@ use std::fmt;
 use std::fmt::Display;
 
 /// A location of the input.
-#[derive(Clone, Copy, Debug, PartialEq, Eq, PartialOrd, Ord)]
+#[derive(Clone, Copy)]
 pub enum Loc {
     /// The default of the location type.
     Default,
@@ -22,14 +22,14 @@ pub enum Loc {
 
 /// A token: the text of its pattern with `_` in the holes, and what the holes capture. The form
 /// of a token of no terminal is empty.
-#[derive(Clone, Debug, PartialEq, Eq, Drop)]
+#[derive(Clone, Drop)]
 pub struct TokenValue {
     pub form: Text,
     pub payloads: Items<Text>,
 }
 
 /// What a token source gives.
-#[derive(Clone, Debug, PartialEq, Eq, Drop)]
+#[derive(Clone, Drop)]
 pub enum RunItem {
     Token(Loc, TokenValue, Loc),
     /// An error of the lexer, by name.
@@ -43,7 +43,7 @@ pub type SpannedToken = (Loc, TokenValue, Loc);
 pub type SpannedTerm = (Loc, Term, Loc);
 
 /// The value of a symbol.
-#[derive(Clone, Debug, PartialEq, Eq, Drop)]
+#[derive(Clone, Drop)]
 pub enum Term {
     /// What the one hole of a token's pattern captured.
     Payload(Text),
@@ -57,14 +57,14 @@ pub enum Term {
 }
 
 /// What the error symbol holds.
-#[derive(Clone, Debug, PartialEq, Eq, Drop)]
+#[derive(Clone, Drop)]
 pub struct Recovery {
     pub error: RunParseError,
     pub dropped: Items<SpannedToken>,
 }
 
 /// An error that user code or the token source gives.
-#[derive(Clone, Debug, PartialEq, Eq, Drop)]
+#[derive(Clone, Drop)]
 pub enum UserError {
     /// Of the call of this number.
     Call(u64),
@@ -73,7 +73,7 @@ pub enum UserError {
 }
 
 /// How a parse fails: over locations, tokens and user errors.
-#[derive(Clone, Debug, PartialEq, Eq, Drop)]
+#[derive(Clone, Drop)]
 pub enum ParseError<L, T, E> {
     InvalidToken {
         location: L,
@@ -98,7 +98,7 @@ pub enum ParseError<L, T, E> {
 pub type RunParseError = ParseError<Loc, TokenValue, UserError>;
 
 /// A call of user code.
-#[derive(Clone, Debug, PartialEq, Eq, Drop)]
+#[derive(Clone, Drop)]
 pub struct Event {
     /// Counted from 0.
     pub number: u64,
@@ -110,7 +110,7 @@ pub struct Event {
 }
 
 /// How a run ends.
-#[derive(Clone, Debug, PartialEq, Eq, Drop)]
+#[derive(Clone, Drop)]
 pub enum Outcome {
     Value(Term),
     Error(RunParseError),

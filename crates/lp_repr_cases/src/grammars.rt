@@ -230,10 +230,7 @@ fn numbers_of_a_grammar(rt: HostRuntime) -> Result<(), Fail> {
     assert_eq!(rt; numbers.nonterminal(&nonterminal(alloc, "Y")?), None);
     assert_eq!(rt; numbers.terminal(&quoted(alloc, "1")?), Some(2));
     assert_eq!(rt; numbers.terminal(&TerminalString::Error), None);
-    assert_eq!(rt;
-        numbers.symbol(&symbol(alloc, "'0")?),
-        Some(SymbolNumber::Terminal(1))
-    );
+    assert!(rt; numbers.symbol(&symbol(alloc, "'0")?) == Some(SymbolNumber::Terminal(1)));
     assert_eq!(rt; production_count(&grammar), 5);
     let firsts = first_productions(alloc, &grammar)?;
     assert_eq!(rt; firsts.as_slice(), [0, 1, 2, 4, 5].as_slice());

@@ -24,7 +24,7 @@ use lp_turns::runner::{Runner, standing};
 use std::alloc::{AllocError, Global};
 
 /// What a run did: its calls of user code, how it ended, and how many steps it made.
-#[derive(Debug, Drop)]
+#[derive(Drop)]
 pub struct Run {
     pub events: Items<Event>,
     pub outcome: Outcome,

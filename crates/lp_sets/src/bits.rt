@@ -11,7 +11,7 @@ use std::marker::Model;
 const WORD: usize = 64;
 
 /// A set of numbers, which contracts see as the number with these bits.
-#[derive(Debug, Drop)]
+#[derive(Drop)]
 pub struct Bits {
     words: Vec<u64>,
 }

@@ -8,7 +8,7 @@ use lp_repr::numbering::{Rule, SymbolNumber};
 use std::alloc::{AllocError, Global};
 
 /// The nonterminals that derive the empty word, and the first terminals of each.
-#[derive(Debug, Drop)]
+#[derive(Drop)]
 pub struct Firsts {
     pub empty: Bits,
     pub sets: Vec<Bits>,

@@ -9,7 +9,7 @@ use lp_repr::lr1::Token;
 use std::alloc::{AllocError, Global};
 
 /// A set of tokens: terminals by number, and whether the end of input is among them.
-#[derive(Clone, Debug, PartialEq, Eq, PartialOrd, Ord, Drop)]
+#[derive(Clone, PartialEq, Eq, PartialOrd, Ord, Drop)]
 pub struct TokenSet {
     pub terminals: Bits,
     pub end: bool,

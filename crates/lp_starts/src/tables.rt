@@ -14,7 +14,7 @@ use lp_valid::{GrammarFault, check_grammar};
 use std::alloc::{AllocError, AllocFailed, Global};
 
 /// Why a grammar has no tables.
-#[derive(Debug, PartialEq, Eq, Drop)]
+#[derive(Drop)]
 pub enum TablesFault {
     /// The least rule of valid grammars that fails, by number, and the least place at which it does.
     BadGrammar {

@@ -27,7 +27,7 @@ use std::collections::{BTreeMap, VecDeque};
 pub const MOST_STATES: usize = 4096;
 
 /// Why a start has no states.
-#[derive(Debug, PartialEq, Eq, Drop)]
+#[derive(Drop)]
 pub enum BuildFault {
     /// The items after the path have two actions on the token.
     Conflict { path: Items<Symbol>, token: Token },

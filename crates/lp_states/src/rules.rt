@@ -11,7 +11,7 @@ use lp_repr::repr::Grammar;
 use std::alloc::{AllocError, Global};
 
 /// Productions from one number up to another.
-#[derive(Clone, Copy, Debug)]
+#[derive(Clone, Copy)]
 pub struct Range {
     pub from: usize,
     /// The number after the last one.
@@ -19,7 +19,7 @@ pub struct Range {
 }
 
 /// The productions in the order of their nonterminals' keys.
-#[derive(Debug, Drop)]
+#[derive(Drop)]
 pub struct Rules {
     /// By number, counted from 0.
     pub all: Vec<Rule>,

@@ -7,7 +7,7 @@ use lp_repr::repr::{
 use lp_repr::text::{Items, Text};
 
 /// A grammar file: what stands before its rules, its `extern` block, and its rules in order.
-#[derive(Debug, PartialEq, Eq, Drop)]
+#[derive(Drop)]
 pub struct PlainGrammar {
     /// In front of each name that the emitted text makes itself.
     pub prefix: Text,
@@ -28,7 +28,7 @@ pub struct PlainGrammar {
 }
 
 /// A terminal and the pattern of its tokens.
-#[derive(Debug, PartialEq, Eq, Drop)]
+#[derive(Drop)]
 pub struct PlainTerminal {
     pub name: TerminalString,
     pub pattern: TokenPattern,
@@ -37,7 +37,7 @@ pub struct PlainTerminal {
 }
 
 /// A rule: a nonterminal, its type and its alternatives.
-#[derive(Debug, PartialEq, Eq, Drop)]
+#[derive(Drop)]
 pub struct PlainRule {
     pub public: bool,
     pub inline: bool,
@@ -49,7 +49,7 @@ pub struct PlainRule {
 }
 
 /// An alternative: symbols, and the code that makes a value of theirs.
-#[derive(Debug, PartialEq, Eq, Drop)]
+#[derive(Drop)]
 pub struct PlainAlternative {
     pub symbols: Items<PlainSymbol>,
     /// Its arrow is `=>?`.
@@ -59,7 +59,7 @@ pub struct PlainAlternative {
 }
 
 /// A symbol, and the name that it is bound to.
-#[derive(Debug, PartialEq, Eq, Drop)]
+#[derive(Drop)]
 pub struct PlainSymbol {
     /// The argument's pattern: `_`, a name, or `mut` and a name.
     pub name: Text,
@@ -69,7 +69,7 @@ pub struct PlainSymbol {
 }
 
 /// What a symbol stands for.
-#[derive(Debug, PartialEq, Eq, Drop)]
+#[derive(Drop)]
 pub enum PlainKind {
     /// A rule, or else a terminal that is a bare name.
     Name(Text),

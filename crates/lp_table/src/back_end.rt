@@ -38,7 +38,7 @@ pub trait BackEnd {
 }
 
 /// Table-driven code.
-#[derive(Clone, Copy, Debug)]
+#[derive(Clone, Copy)]
 pub struct TableBackEnd;
 
 impl BackEnd for TableBackEnd {

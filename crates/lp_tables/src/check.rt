@@ -19,7 +19,7 @@ use lp_repr::repr::Grammar;
 use std::alloc::{AllocError, Global};
 
 /// Why tables are refused.
-#[derive(Clone, Copy, Debug, PartialEq, Eq)]
+#[derive(Clone, Copy)]
 pub enum TableFault {
     /// The least state at which a rule fails, and the least rule that fails there.
     Rule { rule: u8, state: usize },

@@ -13,7 +13,7 @@ use lp_run::{Run, run_program};
 use std::alloc::{AllocError, Global};
 
 /// Why a text has no runs.
-#[derive(Clone, Copy, Debug, PartialEq, Eq)]
+#[derive(Clone, Copy)]
 pub enum TextRunFault {
     /// The text reads as no program; the line, counted from 1, is the first that fits no form.
     NoForm { line: usize },

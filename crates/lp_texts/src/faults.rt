@@ -3,7 +3,7 @@
 use std::alloc::AllocError;
 
 /// What a text of a grammar is.
-#[derive(Clone, Copy, Debug, PartialEq, Eq)]
+#[derive(Clone, Copy, Debug)]
 pub enum TextKind {
     Use,
     Attribute,
@@ -18,14 +18,14 @@ pub enum TextKind {
 /// order from 0. Codes count by their action. Type texts are the location, token and error type,
 /// those of terminals and nonterminals, type parameters, parameter types, where clauses, the
 /// visibilities of nonterminals, argument types per action, and the return types of actions.
-#[derive(Clone, Copy, Debug, PartialEq, Eq)]
+#[derive(Clone, Copy, Debug)]
 pub struct TextPlace {
     pub kind: TextKind,
     pub number: usize,
 }
 
 /// Why the texts of a grammar can't be printed.
-#[derive(Clone, Copy, Debug, PartialEq, Eq)]
+#[derive(Clone, Copy)]
 pub enum TextFault {
     /// The first text that breaks its rule, and the first wrong byte.
     Bad { place: TextPlace, byte: usize },

@@ -18,7 +18,7 @@ use std::alloc::{AllocError, Global};
 use std::borrow::CowStr;
 
 /// Why a string's escapes can't be read.
-#[derive(Debug, Drop)]
+#[derive(Drop)]
 pub enum EscapeError {
     /// An escape that is none, and where.
     Bad(Error),

@@ -1,14 +1,14 @@
 //! Tokens and their errors.
 
 /// An error of the tokenizer, of a cut or of a string's escapes: where, in bytes, and what.
-#[derive(Clone, Copy, Debug, PartialEq, Eq)]
+#[derive(Clone, Copy, PartialEq, Eq)]
 pub struct Error {
     pub location: usize,
     pub code: ErrorCode,
 }
 
 /// What is wrong at an error's place.
-#[derive(Clone, Copy, Debug, PartialEq, Eq)]
+#[derive(Clone, Copy, PartialEq, Eq)]
 pub enum ErrorCode {
     /// A character that begins no token, or a symbol that breaks off.
     UnrecognizedToken,
@@ -36,7 +36,7 @@ pub enum ErrorCode {
 pub type Spanned<T> = (usize, T, usize);
 
 /// A token of a grammar file. Texts are parts of the input.
-#[derive(Clone, Debug, Drop, PartialEq, Eq)]
+#[derive(Clone, Drop, PartialEq, Eq)]
 pub enum Tok<'input> {
     Enum,
     Extern,

@@ -8,7 +8,7 @@ use lp_repr::Text;
 use lp_write::Options;
 
 /// What a call asks for.
-#[derive(Clone, Copy, Debug, PartialEq, Eq)]
+#[derive(Clone, Copy)]
 pub enum Command {
     /// The parser text of a grammar file.
     Emit(Options),
@@ -19,7 +19,7 @@ pub enum Command {
 }
 
 /// An option of how the text looks.
-#[derive(Clone, Copy, Debug, PartialEq, Eq)]
+#[derive(Clone, Copy)]
 pub enum Look {
     Comments,
     NoWhitespace,

@@ -28,7 +28,7 @@ pub struct File {
 }
 
 /// Why nothing is written.
-#[derive(Debug, Drop)]
+#[derive(Drop)]
 pub struct Stop {
     pub status: Status,
     /// The plain grammar, once it is lowered; none for want of memory.

@@ -8,7 +8,7 @@ use lp_repr::repr::Symbol;
 use lp_repr::{Items, Token};
 
 /// How a call of the tool ends. Nothing was written but under `Done` and `WriteFault`.
-#[derive(Debug, Drop)]
+#[derive(Drop)]
 pub enum Status {
     /// All was written; for `emit` and `run` the source was read to its end.
     Done,

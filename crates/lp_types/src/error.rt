@@ -7,14 +7,14 @@ use lp_tok::{Error, Tok};
 use std::alloc::{AllocError, AllocFailed};
 
 /// A part of a text: the places of its first byte and after its last one.
-#[derive(Clone, Copy, Debug, PartialEq, Eq)]
+#[derive(Clone, Copy)]
 pub struct Span(pub usize, pub usize);
 
 /// How reading a grammar fails: over places, tokens and the tokenizer's errors.
 pub type ParseError<'input> = lp_repr::values::ParseError<usize, Tok<'input>, Error>;
 
 /// Why a text isn't read.
-#[derive(Debug, Drop)]
+#[derive(Drop)]
 pub enum PlainError<'input> {
     Parse(ParseError<'input>),
     Memory,

@@ -7,7 +7,7 @@ ghost use Rattle.lp_types.specs.Marks.{is_tok, mark_of, texted};
 use lp_tok::Tok;
 
 /// A kind of tokens that have a text.
-#[derive(Clone, Copy, PartialEq, Eq)]
+#[derive(Clone, Copy)]
 pub enum Kind {
     Use,
     Escape,

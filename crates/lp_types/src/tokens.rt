@@ -18,7 +18,7 @@ pub struct Tokens<'input> {
 }
 
 /// Where a token stands.
-#[derive(Clone, Copy, PartialEq, Eq)]
+#[derive(Clone, Copy)]
 enum Where {
     Outside,
     /// Between `enum` and its `{`.

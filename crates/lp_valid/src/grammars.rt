@@ -18,7 +18,7 @@ use lp_repr::repr::{Grammar, Production};
 use std::alloc::{AllocError, Global};
 
 /// Why a grammar is refused.
-#[derive(Clone, Copy, Debug, PartialEq, Eq)]
+#[derive(Clone, Copy)]
 pub enum GrammarFault {
     /// The least rule that fails, and the least place at which it does.
     Rule { rule: u8, place: usize },

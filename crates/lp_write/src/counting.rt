@@ -8,7 +8,7 @@ use std::marker::Model;
 
 /// A sink that keeps nothing but the number of bytes that it has taken. It never fails. At the
 /// greatest u64 the total stays, and the sink tells no number.
-#[derive(Debug, Drop)]
+#[derive(Drop)]
 pub struct CountSink {
     total: u64,
 }

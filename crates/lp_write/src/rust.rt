@@ -22,7 +22,7 @@ use std::fmt::Display;
 use thiserror::Error;
 
 /// Why a call that takes memory wrote less than it was to write.
-#[derive(Clone, Copy, Debug, PartialEq, Eq, Error)]
+#[derive(Clone, Copy, Debug, Error)]
 pub enum WriteError {
     /// A write failed; the sink's count of faults rose in this call.
     #[error("write fault")]
@@ -54,7 +54,7 @@ impl From<AllocError> for WriteError {
 }
 
 /// How emitted text looks.
-#[derive(Clone, Copy, Debug, PartialEq, Eq)]
+#[derive(Clone, Copy, PartialEq, Eq)]
 pub struct Options {
     /// Comment lines are printed.
     pub comments: bool,

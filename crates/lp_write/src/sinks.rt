@@ -4,7 +4,7 @@ ghost use Rattle.std.specs.Prelude.{◌≡◌, ℕ, ◌+◌, ◌-◌, ◌<◌, �
 ghost use Rattle.lp_write.specs.Sinks.{Told, Took, Refused, Broke};
 
 /// A read or a write failed; the count of faults of the source or sink rose.
-#[derive(Clone, Copy, Debug, PartialEq, Eq)]
+#[derive(Clone, Copy, PartialEq, Eq)]
 pub struct Failed;
 
 /// A sink of bytes. It means what it tells: the bytes that it holds and the number of bytes that it

@@ -39,7 +39,7 @@ use std::alloc::{AllocError, Global};
 use std::borrow::CowStr;
 
 /// Why a text wasn't read.
-#[derive(Clone, Copy, Debug, PartialEq, Eq)]
+#[derive(Clone, Copy)]
 pub enum ReadFault {
     /// The first line, from 1, that fits no form at its place; one past the last line where the
     /// text ends too early. The lines before it begin a program; and no text with the same lines up
@@ -759,7 +759,7 @@ fn is_close_first(cursor: Cursor<'_>) -> bool
 }
 
 /// Whose parameters an action has after those of the grammar.
-#[derive(Clone, Copy, PartialEq, Eq)]
+#[derive(Clone, Copy)]
 pub enum Parameters {
     /// Patterns of user code.
     User,
