@@ -1,5 +1,5 @@
 -- Actions some of whose symbols are inlined actions: the spans of these, their calls, and the outer call.
-use Rattle.std.specs.Prelude.{ℕ, ◌+◌, ◌-◌, ◌^◌, ◌&&◌, nat_lt, min, Bool, not, List, [], ◌∷◌, ◌++◌, fold, length, map, slice_get, codes, decimal, if◌then◌else◌}
+use Rattle.std.specs.Prelude.{ℕ, ◌+◌, ◌-◌, ◌&&◌, nat_lt, Bool, not, List, [], ◌∷◌, ◌++◌, fold, length, map, slice_get, codes, decimal, if◌then◌else◌}
 use Rattle.std.specs.List.{flat_map, range_with_len}
 use Rattle.lp_form.specs.declared.part.Part.TheVariants as part
 use Rattle.lp_repr.specs.declared.repr.Grammar.{Grammar}
@@ -13,13 +13,9 @@ use Rattle.lp_table.specs.Headers.{names_of}
 use Rattle.lp_table.specs.Starts.{fallible_or_not}
 use Rattle.lp_actions.specs.Parameters.{width}
 
--- a sum, up to the greatest usize
-abbrev pub sum_up_to : ℕ → ℕ → ℕ
-sum_up_to a b = min (a + b) (2 ^ 64 - 1)
-
 -- how many arguments symbols take together
 abbrev pub total_width : List InlinedSymbol → ℕ
-total_width symbols = fold (λ n s. sum_up_to n (width s)) 0 symbols
+total_width symbols = fold (λ n s. n + width s) 0 symbols
 
 -- whether an action of a number is fallible
 abbrev pub action_fails : Grammar → ℕ → Bool
@@ -58,7 +54,7 @@ span_start prefix before count total =
 -- all, else ahead
 abbrev pub span_end : List ℕ → ℕ → ℕ → ℕ → List ℕ
 span_end prefix before count total =
-    if nat_lt 0 count then end_of prefix (sum_up_to before (count - 1))
+    if nat_lt 0 count then end_of prefix (before + (count - 1))
     else (if nat_lt before total then start_of prefix before
     else (if nat_lt 0 total then end_of prefix (total - 1) else location_ahead prefix))
 
@@ -77,7 +73,7 @@ span_if prefix total n before (Inlined action inner) =
 abbrev pub spans_from : List ℕ → ℕ → ℕ → ℕ → List InlinedSymbol → List Item
 spans_from prefix total n before [] = []
 spans_from prefix total n before (s ∷ ss) =
-    span_if prefix total n before s ++ spans_from prefix total (n + inlined_count s) (sum_up_to before (width s)) ss
+    span_if prefix total n before s ++ spans_from prefix total (n + inlined_count s) (before + width s) ss
 
 -- the arguments of an inlined action: the parameters, then its arguments, or its span
 abbrev pub span_start_name : List ℕ → ℕ → List ℕ
@@ -87,7 +83,7 @@ abbrev pub span_end_name : List ℕ → ℕ → List ℕ
 span_end_name prefix n = codes "&" ++ (prefix ++ (codes "end" ++ decimal n))
 
 abbrev pub argument_behind : List ℕ → ℕ → ℕ → List ℕ
-argument_behind prefix before place = argument prefix (sum_up_to before place)
+argument_behind prefix before place = argument prefix (before + place)
 
 abbrev pub own_arguments : List ℕ → ℕ → ℕ → ℕ → List (List ℕ)
 own_arguments prefix n before count =
@@ -111,7 +107,7 @@ call_if g n before (Inlined action inner) = inline_call g n before action (lengt
 -- the calls of inlined actions, from a number and a place on
 abbrev pub calls_from : Grammar → ℕ → ℕ → List InlinedSymbol → List Item
 calls_from g n before [] = []
-calls_from g n before (s ∷ ss) = call_if g n before s ++ calls_from g (n + inlined_count s) (sum_up_to before (width s)) ss
+calls_from g n before (s ∷ ss) = call_if g n before s ++ calls_from g (n + inlined_count s) (before + width s) ss
 
 -- the arguments of the outer action, from a number and a place on
 abbrev pub result_name : List ℕ → ℕ → List ℕ
@@ -124,7 +120,7 @@ outer_argument prefix n before (Inlined action inner) = result_name prefix n
 abbrev pub outer_from : List ℕ → ℕ → ℕ → List InlinedSymbol → List (List ℕ)
 outer_from prefix n before [] = []
 outer_from prefix n before (s ∷ ss) =
-    outer_argument prefix n before s ∷ outer_from prefix (n + inlined_count s) (sum_up_to before (width s)) ss
+    outer_argument prefix n before s ∷ outer_from prefix (n + inlined_count s) (before + width s) ss
 
 abbrev pub outer_arguments : Grammar → List InlinedSymbol → List (List ℕ)
 outer_arguments g symbols = names_of g ++ outer_from g.prefix 0 0 symbols

@@ -1,12 +1,13 @@
 //! The calls of inlined actions, and the outer call.
 
-ghost use Rattle.std.specs.Prelude.{◌≡◌, ◌+◌, ◌++◌, map, vec_len, IfOk, OnOk};
+ghost use Rattle.std.specs.Prelude.{◌≡◌, ◌+◌, ◌^◌, ◌<◌, ◌++◌, map, vec_len, IfOk, OnOk};
 ghost use Rattle.std.specs.List.{flat_map, range_with_len};
 ghost use Rattle.lp_build.specs.Actions.{call_lines, outer_lines};
 ghost use Rattle.lp_table.specs.Headers.{names_of};
 ghost use Rattle.lp_actions.specs.Inlines.{action_fails, argument, argument_behind, call_if, calls_from, inline_call, inlined_count, inner_arguments, outer_argument, outer_arguments, outer_call, outer_from, own_arguments, result_name, span_end_name, span_start_name, type_arguments};
+ghost use Rattle.lp_actions.specs.Parameters.{width};
 
-use crate::symbols::{inlined_count, width};
+use crate::symbols::{behind, inlined_count};
 use lp_build::{InlineCall, OuterCall};
 use lp_parts::texts::generic_names;
 use lp_repr::repr::{Grammar, InlinedSymbol};
@@ -25,8 +26,9 @@ pub fn calls<'t>(
     let mut calls = Vec::new(alloc);
     let mut before = 0usize;
     for symbol in symbols {
+        let next = behind(before, symbol)?;
         push_call(alloc, &mut calls, grammar, before, symbol)?;
-        before = before.saturating_add(width(symbol));
+        before = next;
     }
     Ok(calls)
 }
@@ -39,6 +41,7 @@ fn push_call<'t>(
     before: usize,
     symbol: &InlinedSymbol,
 ) -> Result<(), AllocError>
+    requires { before + width symbol.now < 2 ^ 64 }
     ensures rows { OnOk result (flat_map call_lines calls.new.items ≡ flat_map call_lines calls.old.items ++ call_if grammar.entry.now (vec_len calls.old) before symbol.now) }
     ensures count { OnOk result (vec_len calls.new ≡ vec_len calls.old + inlined_count symbol.now) }
 {
@@ -62,6 +65,7 @@ fn inline_call<'t>(
     action: usize,
     count: usize,
 ) -> Result<InlineCall<'t>, AllocError>
+    requires { before + count < 2 ^ 64 }
     ensures { IfOk result (λ c. call_lines c ≡ inline_call grammar.entry.now number before action count) }
 {
     let type_arguments = type_arguments(alloc, grammar)?;
@@ -117,6 +121,7 @@ fn inner_arguments<'t>(
     before: usize,
     count: usize,
 ) -> Result<Vec<Piece<'t>>, AllocError>
+    requires { before + count < 2 ^ 64 }
     ensures { IfOk result (λ v. v.items ≡ inner_arguments grammar.entry.now number before count) }
 {
     let mut pieces = parameter_names(alloc, grammar)?;
@@ -133,6 +138,7 @@ fn own_arguments<'t>(
     before: usize,
     count: usize,
 ) -> Result<Vec<Piece<'t>>, AllocError>
+    requires { before + count < 2 ^ 64 }
     ensures { IfOk result (λ v. v.items ≡ own_arguments prefix.now number before count) }
 {
     if count > 0 {
@@ -165,11 +171,12 @@ fn arguments<'t>(
     before: usize,
     count: usize,
 ) -> Result<Vec<Piece<'t>>, AllocError>
+    requires { before + count < 2 ^ 64 }
     ensures { IfOk result (λ v. v.items ≡ map (argument_behind prefix.now before) (range_with_len 0 count)) }
 {
     let mut pieces = Vec::new(alloc);
     for place in 0..count {
-        pieces.push(argument(alloc, prefix, before.saturating_add(place))?)?;
+        pieces.push(argument(alloc, prefix, before + place)?)?;
     }
     Ok(pieces)
 }
@@ -230,7 +237,7 @@ fn add_outer<'t>(
     for symbol in symbols {
         pieces.push(outer_argument(alloc, prefix, number, before, symbol)?)?;
         number += inlined_count(symbol);
-        before = before.saturating_add(width(symbol));
+        before = behind(before, symbol)?;
     }
     Ok(())
 }

@@ -1,10 +1,11 @@
 //! The spans of inlined actions.
 
-ghost use Rattle.std.specs.Prelude.{◌≡◌, ◌+◌, ◌++◌, map, vec_len, IfOk, OnOk};
+ghost use Rattle.std.specs.Prelude.{◌≡◌, ◌+◌, ◌^◌, ◌<◌, ◌++◌, map, vec_len, IfOk, OnOk};
 ghost use Rattle.lp_build.specs.Actions.{span_row};
 ghost use Rattle.lp_actions.specs.Inlines.{end_of, inlined_count, location_ahead, location_behind, span_end, span_if, span_start, spans_from, start_of, total_width};
+ghost use Rattle.lp_actions.specs.Parameters.{width};
 
-use crate::symbols::{total_width, width};
+use crate::symbols::{behind, total_width};
 use lp_build::InlineSpan;
 use lp_repr::repr::InlinedSymbol;
 use lp_table::pieces::made;
@@ -19,12 +20,13 @@ pub fn spans<'t>(
 ) -> Result<Vec<InlineSpan<'t>>, AllocError>
     ensures { IfOk result (λ v. map span_row v.items ≡ spans_from prefix.now (total_width symbols.now) 0 0 symbols.now) }
 {
-    let total = total_width(symbols);
+    let total = total_width(symbols)?;
     let mut spans = Vec::new(alloc);
     let mut before = 0usize;
     for symbol in symbols {
+        let next = behind(before, symbol)?;
         push_span(alloc, &mut spans, prefix, total, before, symbol)?;
-        before = before.saturating_add(width(symbol));
+        before = next;
     }
     Ok(spans)
 }
@@ -38,6 +40,7 @@ fn push_span<'t>(
     before: usize,
     symbol: &InlinedSymbol,
 ) -> Result<(), AllocError>
+    requires { before + width symbol.now < 2 ^ 64 }
     ensures rows { OnOk result (map span_row spans.new.items ≡ map span_row spans.old.items ++ span_if prefix.now total (vec_len spans.old) before symbol.now) }
     ensures count { OnOk result (vec_len spans.new ≡ vec_len spans.old + inlined_count symbol.now) }
 {
@@ -85,10 +88,11 @@ fn span_end<'t>(
     count: usize,
     total: usize,
 ) -> Result<Piece<'t>, AllocError>
+    requires { before + count < 2 ^ 64 }
     ensures { IfOk result (λ p. p ≡ span_end prefix.now before count total) }
 {
     if count > 0 {
-        end_of(alloc, prefix, before.saturating_add(count - 1))
+        end_of(alloc, prefix, before + (count - 1))
     } else if before < total {
         start_of(alloc, prefix, before)
     } else if total > 0 {

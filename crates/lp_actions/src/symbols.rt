@@ -1,6 +1,6 @@
 //! The symbols of an action some of which are inlined actions.
 
-ghost use Rattle.std.specs.Prelude.{◌≡◌, ◌++◌, map, IfOk, OnOk};
+ghost use Rattle.std.specs.Prelude.{◌≡◌, ◌+◌, ◌^◌, ◌<◌, ◌++◌, map, IfOk, OnOk};
 ghost use Rattle.std.specs.List.{flat_map};
 ghost use Rattle.std.specs.Map.Iter.{deref};
 ghost use Rattle.lp_actions.specs.Inlines.{inlined_count, total_width};
@@ -36,15 +36,23 @@ pub fn takes_any(symbols: &[InlinedSymbol]) -> bool
     symbols.iter().any(|symbol| width(symbol) > 0)
 }
 
-/// How many arguments the symbols take together.
-pub fn total_width(symbols: &[InlinedSymbol]) -> usize
-    ensures { result ≡ total_width symbols.now }
+/// How many arguments the symbols take together. The error is want of memory for so many.
+pub fn total_width(symbols: &[InlinedSymbol]) -> Result<usize, AllocError>
+    ensures { IfOk result (λ n. n ≡ total_width symbols.now) }
 {
     let mut total = 0usize;
     for symbol in symbols {
-        total = total.saturating_add(width(symbol));
+        total = behind(total, symbol)?;
     }
-    total
+    Ok(total)
+}
+
+/// The place behind the arguments of a symbol.
+pub fn behind(before: usize, symbol: &InlinedSymbol) -> Result<usize, AllocError>
+    ensures sum { IfOk result (λ n. n ≡ before + width symbol.now) }
+    ensures within { OnOk result (before + width symbol.now < 2 ^ 64) }
+{
+    before.checked_add(width(symbol)).ok_or(AllocError)
 }
 
 /// The symbols, those of inlined actions in their place.

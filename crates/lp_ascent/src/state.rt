@@ -19,9 +19,8 @@ use crate::slots::{Slots, slots_at};
 use crate::states::States;
 use lp_build::{ErrorLocation, error_arm, state_fn};
 use lp_repr::Lr1State;
-use lp_table::pieces::{copied, made};
-use lp_table::tables::item_lines;
-use lp_tree::{Node, Piece};
+use lp_table::pieces::copied;
+use lp_tree::Node;
 use std::alloc::{AllocError, Global};
 
 /// The function of the state of a number.
@@ -51,7 +50,6 @@ fn state_with<'t>(
     let triple = located(alloc, &states.shared, states.shared.types.token.as_str())?;
     let parameters = copied(alloc, states.answer_texts.parameters.as_str())?;
     let cells = new_cells(alloc, slots)?;
-    let notes = state_notes(alloc, states, number, state)?;
     let next_token = !slots.has_lookahead();
     state_fn(
         alloc,
@@ -59,7 +57,7 @@ fn state_with<'t>(
         parameters,
         next_token,
         cells.as_slice(),
-        notes,
+        Vec::new(alloc),
         below,
     )
 }
@@ -116,20 +114,6 @@ fn add_gotos<'t>(
     } else {
         Ok(())
     }
-}
-
-/// The comment lines before a state's function.
-fn state_notes<'t>(
-    alloc: Global,
-    states: &States<'t>,
-    number: usize,
-    state: &Lr1State,
-) -> Result<Vec<Piece<'t>>, AllocError> {
-    let mut notes = vec![in alloc; made(format!(in alloc; "// State {number}")?)]?;
-    for line in item_lines(alloc, &states.shared, state)? {
-        notes.push(line)?;
-    }
-    Ok(notes)
 }
 
 /// The fixed slots that become cells.

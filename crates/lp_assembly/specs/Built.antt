@@ -1,5 +1,5 @@
 -- The program that a grammar and its states determine.
-use Rattle.std.specs.Prelude.{◌≡◌, ℕ, zero, suc, List, [], ◌∷◌, ◌++◌, length, map, slice_get, codes, Option, Some, None}
+use Rattle.std.specs.Prelude.{◌≡◌, ℕ, zero, suc, List, [], ◌∷◌, ◌++◌, length, map, slice_get, codes, Option, Some, None, All}
 use Rattle.std.specs.List.{flat_map, join_by}
 use Rattle.lp_form.specs.declared.part.Part.TheVariants as part
 use Rattle.lp_repr.specs.Escapes.{escaped_text}
@@ -15,13 +15,15 @@ use Rattle.lp_repr.specs.declared.repr.MatchEntry.{MatchEntry}
 use Rattle.lp_repr.specs.declared.repr.NonterminalString.{NonterminalString}
 use Rattle.lp_repr.specs.declared.repr.TypeRepr.{TypeRepr}
 use Rattle.lp_repr.specs.declared.repr.WhereClause.{WhereClause}
-use Rattle.lp_tree.specs.ProgramTree.{Item, leaf, program_items}
+use Rattle.lp_tree.specs.ProgramTree.{Item, leaf, program_items, program_notes}
 use Rattle.lp_tree.specs.declared.tree.Program.{Program}
 use Rattle.lp_build.specs.Built.{over}
 use Rattle.lp_build.specs.Frame.{hole_if, intern_row, triple_holes, triple_part, white_space}
 use Rattle.lp_build.specs.declared.frame.InternEntry.{InternEntry}
 use Rattle.lp_build.specs.declared.frame.Triples.{Triples}
 use Rattle.lp_build.specs.declared.frame.Triples.TheVariants.{Located, Plain}
+use Rattle.lp_notes.specs.Notes.{notes_of_program}
+use Rattle.lp_parts.specs.Entries.{EntriesFit}
 use Rattle.lp_parts.specs.Texts.{each_with_comma, error_text, location_text, token_text}
 use Rattle.lp_ascent.specs.BuiltAscent.{built_ascent_at}
 use Rattle.lp_table.specs.BuiltTable.{built_table_at}
@@ -112,7 +114,11 @@ triple_lines_by g clauses triples =
 abbrev pub triple_lines : Grammar → List Item
 triple_lines g = triple_lines_by g (joined_clauses g.where_clauses) (implementations g g.types.loc)
 
--- the program of a grammar and its states
+-- the entries of all states fit 32 bits
+abbrev pub AllFit : List StartStates → Type 0
+AllFit states = All (λ list. All EntriesFit list.states) states
+
+-- the program of a grammar and its states: its prefix, its parts, and the notes of these
 pub record IsBuilt (g : Grammar) (states : List StartStates) (program : Program) : Type 0 where
   pub prefix : program.prefix ≡ g.prefix
   pub modules : List Item
@@ -120,3 +126,4 @@ pub record IsBuilt (g : Grammar) (states : List StartStates) (program : Program)
   pub parts :
       program_items program
       ≡ over part.Program [] ((((front_lines g ++ modules) ++ token_lines g g.intern_token) ++ action_functions g) ++ triple_lines g)
+  pub notes : program_notes program ≡ notes_of_program g states (program_items program)

@@ -3,10 +3,11 @@
 ghost use Rattle.std.specs.Prelude.{◌≡◌, ◌<◌, true, nat_lt, All, IfNone};
 ghost use Rattle.std.specs.List.{list_all};
 ghost use Rattle.std.specs.BTreeMap.{values};
+ghost use Rattle.lp_assembly.specs.Built.{AllFit};
 ghost use Rattle.lp_parts.specs.Entries.{EntriesFit};
 
-use lp_repr::Items;
 use lp_repr::lr1::{Lr1State, Token};
+use lp_repr::{Items, StartStates};
 use std::collections::BTreeMap;
 
 /// Above each state and each production that an entry can name.
@@ -22,6 +23,19 @@ pub fn first_unfit(states: &[Lr1State]) -> Option<usize>
         }
     }
     None
+}
+
+/// Whether the entries of all states fit.
+pub fn all_fit(lists: &[StartStates]) -> bool
+    ensures { result ≡ true → AllFit lists.now }
+{
+    for list in lists {
+        match first_unfit(list.states.as_slice()) {
+            Some(_) => return false,
+            None => {}
+        }
+    }
+    true
 }
 
 fn entries_fit(state: &Lr1State) -> bool

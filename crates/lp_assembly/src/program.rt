@@ -1,35 +1,36 @@
 //! The whole program.
 
-ghost use Rattle.std.specs.Prelude.{◌≡◌, ◌<◌, ◌++◌, length, map, codes, string_bytes, All, IfOk, OnOk, Some, option_copied};
+ghost use Rattle.std.specs.Prelude.{◌≡◌, ◌<◌, ◌++◌, length, map, codes, string_bytes, All, IfOk, IfSome, OnOk, Some, option_copied};
 ghost use Rattle.std.specs.BTreeMap.{btree_map_len};
 ghost use Rattle.std.specs.List.{flat_map};
 ghost use Rattle.std.specs.Map.Iter.{deref_pair};
 ghost use Rattle.lp_actions.specs.Parameters.{AreTypesOf};
-ghost use Rattle.lp_assembly.specs.Built.{AreFollowed, AreModules, IsBuilt, IsModule, IsModuleWithName, attribute_lines, front_lines, implementations, joined_clauses, reexport_lines, token_lines, triple_lines, use_lines};
+ghost use Rattle.lp_assembly.specs.Built.{AllFit, AreFollowed, AreModules, IsBuilt, IsModule, IsModuleWithName, attribute_lines, front_lines, implementations, joined_clauses, reexport_lines, token_lines, triple_lines, use_lines};
 ghost use Rattle.lp_parts.specs.Entries.{EntriesFit};
 ghost use Rattle.lp_repr.specs.ShownTypes.{clause_text};
 ghost use Rattle.lp_tree.specs.ProgramTree.{items};
 
-use crate::fits::first_unfit;
 use crate::intern_token;
 use crate::visibility::{visibility_of, widest_visibility};
 use lp_actions::action_functions;
-use lp_ascent::build_ascent_module;
+use lp_ascent::AscentBackEnd;
 use lp_build::{Triples, attribute, program, reexport, standard_uses, to_triple, use_line};
+use lp_notes::noted_program;
 use lp_parts::texts::{TypeTexts, each_with_comma};
 use lp_repr::repr::{Grammar, LrCodeGeneration, NonterminalString, WhereClause};
 use lp_repr::{Lr1State, StartStates, Text};
-use lp_table::build_table_module;
 use lp_table::pieces::{lent, lent_name, made};
+use lp_table::{BackEnd, TableBackEnd};
 use lp_tree::{Node, Piece, Program};
 use std::alloc::{AllocError, Global};
 
-/// The program of a grammar and its states, which has a parser for each start.
+/// The program of a grammar and its states, which has a parser for each start. The error is want of memory.
 pub fn build_program<'t>(
     alloc: Global,
     grammar: &'t Grammar,
     states: &'t [StartStates],
 ) -> Result<Program<'t>, AllocError>
+    requires { AllFit states.now }
     ensures { IfOk result (IsBuilt grammar.entry.now states.entry.now) }
 {
     let mut below = Vec::new(alloc);
@@ -38,7 +39,8 @@ pub fn build_program<'t>(
     add_tokens(alloc, &mut below, grammar)?;
     put_all(&mut below, action_functions(alloc, grammar)?)?;
     put(&mut below, triples(alloc, grammar)?)?;
-    program(alloc, lent(grammar.prefix.as_str()), below)
+    let bare = program(alloc, lent(grammar.prefix.as_str()), below)?;
+    noted_program(alloc, grammar, states, bare)
 }
 
 /// Adds what stands before the modules.
@@ -103,6 +105,7 @@ fn modules<'t>(
     grammar: &'t Grammar,
     states: &'t [StartStates],
 ) -> Result<Vec<Node<'t>>, AllocError>
+    requires { AllFit states.now }
     ensures { IfOk result (λ v. AreModules grammar.entry.now states.entry.now (length grammar.entry.now.start_nonterminals.entries) (flat_map items v.items)) }
 {
     let starts = starts_of(alloc, grammar)?;
@@ -134,6 +137,8 @@ fn add_start<'t>(
     start: &'t NonterminalString,
     states: Option<&'t StartStates>,
 ) -> Result<(), AllocError>
+    requires start { number < btree_map_len grammar.now.start_nonterminals }
+    requires entries { IfSome states (λ list. All EntriesFit list.now.states) }
     ensures { OnOk result (AreFollowed grammar.entry.now number (Some (public_name.entry.now, start.entry.now)) (option_copied states.entry) (flat_map items nodes.old.items) (flat_map items nodes.new.items)) }
 {
     match states {
@@ -152,6 +157,8 @@ fn add_module<'t>(
     start: &'t NonterminalString,
     list: &'t StartStates,
 ) -> Result<(), AllocError>
+    requires start { number < btree_map_len grammar.now.start_nonterminals }
+    requires entries { All EntriesFit list.now.states }
     ensures { OnOk result (IsModuleWithName grammar.entry.now number public_name.entry.now start.entry.now list.entry.now.states (flat_map items nodes.old.items) (flat_map items nodes.new.items)) }
 {
     let inside = module(alloc, grammar, number, list.states.as_slice())?;
@@ -191,28 +198,8 @@ fn reexport_of<'t>(
     reexport(alloc, visibility, lent_name(start.0.as_str()), public_name)
 }
 
-/// The module of a start. Where there is no such start, or an entry of its tables doesn't fit 32 bits,
-/// there is no text: checked tables have neither, but ascent code of more states than there is memory
-/// for.
-fn module<'t>(
-    alloc: Global,
-    grammar: &'t Grammar,
-    start: usize,
-    states: &'t [Lr1State],
-) -> Result<Node<'t>, AllocError>
-    ensures { IfOk result (λ n. IsModule grammar.entry.now start states.entry.now (items n)) }
-{
-    if start >= grammar.start_nonterminals.len() {
-        return Err(AllocError);
-    }
-    match first_unfit(states) {
-        Some(_) => Err(AllocError),
-        None => parse_module(alloc, grammar, start, states),
-    }
-}
-
 /// The module of a start, by the back end that the grammar asks for.
-fn parse_module<'t>(
+fn module<'t>(
     alloc: Global,
     grammar: &'t Grammar,
     start: usize,
@@ -223,9 +210,26 @@ fn parse_module<'t>(
     ensures { IfOk result (λ n. IsModule grammar.entry.now start states.entry.now (items n)) }
 {
     match grammar.algorithm.codegen {
-        LrCodeGeneration::RecursiveAscent => build_ascent_module(alloc, grammar, start, states),
-        _ => build_table_module(alloc, grammar, start, states),
+        LrCodeGeneration::RecursiveAscent => {
+            module_by(alloc, &AscentBackEnd, grammar, start, states)
+        }
+        _ => module_by(alloc, &TableBackEnd, grammar, start, states),
     }
+}
+
+/// The module of a start, by a back end.
+fn module_by<'t, B: BackEnd>(
+    alloc: Global,
+    back_end: &B,
+    grammar: &'t Grammar,
+    start: usize,
+    states: &'t [Lr1State],
+) -> Result<Node<'t>, AllocError>
+    requires start { start < btree_map_len grammar.now.start_nonterminals }
+    requires accepts { B.Accepts grammar.now states.now }
+    ensures { IfOk result (λ n. B.IsBuilt grammar.entry.now states.entry.now start (items n)) }
+{
+    back_end.build_module(alloc, grammar, start, states)
 }
 
 /// How items become triples.

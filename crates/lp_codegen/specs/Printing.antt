@@ -5,7 +5,7 @@ use Rattle.lp_program.specs.Printed.{node_lines}
 use Rattle.lp_repr.specs.Names.{same_nonterminal}
 use Rattle.lp_repr.specs.declared.repr.Grammar.{Grammar}
 use Rattle.lp_repr.specs.declared.repr.NonterminalString.{NonterminalString}
-use Rattle.lp_tree.specs.ProgramTree.{Item, items}
+use Rattle.lp_tree.specs.ProgramTree.{Item, Note, all_notes, items}
 use Rattle.lp_tree.specs.declared.tree.Node.{Node}
 use Rattle.lp_write.specs.Lines.{Line}
 use Rattle.lp_write.specs.Sinks.{Told}
@@ -24,14 +24,15 @@ start_number g public_name nonterminal =
 abbrev pub FindsNoMemory : {W : Type 0} → RustWrite W → RustWrite W → Result (Unit {0}) WriteError → Type 0
 FindsNoMemory old new result = (result ≡ Err Memory) × (new ≡ old)
 
--- or such a node was to be appended under a prefix, line by line
-abbrev pub AppendsNode : {W : Type 0} → (W → Told) → (List Item → Type 0) → List ℕ → RustWrite W → RustWrite W → Result (Unit {0}) WriteError → Type 0
-AppendsNode told AreParts prefix old new result =
-    (node : Node) × AreParts (items node) × Writes (write_ending result) (writing told old) (writing told new) (node_lines (options_of old) prefix node)
+-- or such a node, which has the notes of its parts, was to be appended under a prefix, line by line
+abbrev pub AppendsNode : {W : Type 0} → (W → Told) → (List Item → Type 0) → (List Item → List (List Note)) → List ℕ → RustWrite W → RustWrite W → Result (Unit {0}) WriteError → Type 0
+AppendsNode told AreParts notes prefix old new result =
+    (node : Node) × AreParts (items node) × (all_notes node ≡ notes (items node))
+    × Writes (write_ending result) (writing told old) (writing told new) (node_lines (options_of old) prefix node)
 
-abbrev pub PrintsNode : {W : Type 0} → (W → Told) → (List Item → Type 0) → List ℕ → RustWrite W → RustWrite W → Result (Unit {0}) WriteError → Type 0
-PrintsNode told AreParts prefix old new result =
-    FindsNoMemory old new result ⊎ AppendsNode told AreParts prefix old new result
+abbrev pub PrintsNode : {W : Type 0} → (W → Told) → (List Item → Type 0) → (List Item → List (List Note)) → List ℕ → RustWrite W → RustWrite W → Result (Unit {0}) WriteError → Type 0
+PrintsNode told AreParts notes prefix old new result =
+    FindsNoMemory old new result ⊎ AppendsNode told AreParts notes prefix old new result
 
 -- the lines of nodes, one node after another
 abbrev pub all_node_lines : Options → List ℕ → List Node → List Line

@@ -2,10 +2,12 @@
 
 ghost use Rattle.std.specs.Prelude.{◌≡◌, ◌<◌, All, IfSome, IsSome, codes};
 ghost use Rattle.std.specs.BTreeMap.{btree_map_len};
+ghost use Rattle.lp_notes.specs.Notes.{notes_of_module};
 ghost use Rattle.lp_parts.specs.Entries.{EntriesFit};
 ghost use Rattle.lp_codegen.specs.Printing.{PrintsNode, start_number};
 
 use lp_ascent::AscentBackEnd;
+use lp_notes::noted_module;
 use lp_program::print_node;
 use lp_repr::Lr1State;
 use lp_repr::repr::{Grammar, NonterminalString};
@@ -27,7 +29,7 @@ pub fn compile<'t, W: Sink>(
     requires start { IsSome (start_number grammar.now user_start_symbol.now start_symbol.now) }
     requires entries { All EntriesFit states.now }
     requires action_module { action_module.now ≡ codes "super" }
-    ensures { IfSome (start_number grammar.entry.now user_start_symbol.entry.now start_symbol.entry.now) (λ start. PrintsNode W.told (⟦<AscentBackEnd as BackEnd>⟧.IsBuilt grammar.entry.now states.entry.now start) grammar.entry.now.prefix out.old out.new result) }
+    ensures { IfSome (start_number grammar.entry.now user_start_symbol.entry.now start_symbol.entry.now) (λ start. PrintsNode W.told (⟦<AscentBackEnd as BackEnd>⟧.IsBuilt grammar.entry.now states.entry.now start) (notes_of_module grammar.entry.now states.entry.now) grammar.entry.now.prefix out.old out.new result) }
 {
     let _in_super = action_module;
     let start = start_number(grammar, user_start_symbol, start_symbol).unwrap();
@@ -58,8 +60,9 @@ fn print_module<'t, B: BackEnd, W: Sink>(
 ) -> Result<(), WriteError>
     requires start { start < btree_map_len grammar.now.start_nonterminals }
     requires accepts { B.Accepts grammar.now states.now }
-    ensures { PrintsNode W.told (B.IsBuilt grammar.entry.now states.entry.now start) grammar.entry.now.prefix out.old out.new result }
+    ensures { PrintsNode W.told (B.IsBuilt grammar.entry.now states.entry.now start) (notes_of_module grammar.entry.now states.entry.now) grammar.entry.now.prefix out.old out.new result }
 {
-    let node = back_end.build_module(alloc, grammar, start, states)?;
+    let bare = back_end.build_module(alloc, grammar, start, states)?;
+    let node = noted_module(alloc, grammar, states, bare)?;
     print_node(alloc, grammar.prefix.as_str(), &node, out)
 }

@@ -10,10 +10,12 @@ use Rattle.lp_valid.specs.Refusals.{RefusesGrammar}
 use Rattle.lp_valid.specs.ValidGrammar.{IsValidGrammar}
 use Rattle.lp_valid.specs.declared.grammars.GrammarFault.TheVariants.{Rule}
 use Rattle.lp_write.specs.Sinks.{Told, Broke}
+use Rattle.lp_write.specs.declared.rust.Options.{Options}
 use Rattle.lp_emit.specs.Clashes.{HasNoClash, IsLeastClash}
 use Rattle.lp_emitted.specs.Emittable.{AreTabled, CountsFit, HasNoStart, greatest_count}
 use Rattle.lp_emit.specs.Lists.{IsTableFailure}
 use Rattle.lp_emit.specs.Misfits.{HasFit, HasMisfit}
+use Rattle.lp_emit.specs.Texts.{IsEmission}
 use Rattle.lp_emit.specs.declared.errors.EmitError.{EmitError}
 use Rattle.lp_emit.specs.declared.errors.EmitError.TheVariants.{NoStart, Unsupported, BadGrammar, RecoveryInAscent, NameClash, TooMany, BadTables, BadText, WriteFault, Memory}
 
@@ -81,8 +83,7 @@ abbrev pub RefusesToWrite : Grammar → List StartStates → EmitError → Type 
 RefusesToWrite g states WriteFault = MayBeEmitted g states × HasFit g states
 RefusesToWrite g states error = Refuses g states error
 
--- what a sink tells after a refusal: of some text a part was appended and its count rose, else nothing
--- changed
-abbrev pub AfterRefusal : Told → Told → EmitError → Type 0
-AfterRefusal old new WriteFault = (text : List ℕ) × Broke old new text
-AfterRefusal old new error = new ≡ old
+-- what a sink tells after a refusal: of the text a part was appended and its count rose, else nothing changed
+abbrev pub AfterRefusal : Grammar → List StartStates → Options → Told → Told → EmitError → Type 0
+AfterRefusal g states options old new WriteFault = (text : List ℕ) × IsEmission g states options text × Broke old new text
+AfterRefusal g states options old new error = new ≡ old

@@ -33,9 +33,9 @@ pub fn emit_parsers<K: Sink>(
     ensures whole { OnOk result ((text : List ℕ) × IsEmission grammar.now states.now options.now text × Took (K.told sink.old) (K.told sink.new) text) }
     ensures passes { OnOk result (MayBeEmitted grammar.now states.now) }
 
-    // A refusal tells its cause. A part of a text is appended at a write fault, and else nothing.
+    // A refusal tells its cause. A part of the text is appended at a write fault, and else nothing.
     ensures cause { IfErr result (RefusesToWrite grammar.now states.now) }
-    ensures sink { IfErr result (AfterRefusal (K.told sink.old) (K.told sink.new)) }
+    ensures sink { IfErr result (AfterRefusal grammar.now states.now options.now (K.told sink.old) (K.told sink.new)) }
 {
     let text = emitted_text(alloc, grammar, states, options)?;
     match write_all(sink, text.as_str().as_bytes()) {

@@ -19,7 +19,7 @@ use Rattle.lp_build.specs.Actions.{call_part, outer_part}
 use Rattle.lp_build.specs.declared.functions.FunctionName.TheVariants as name
 use Rattle.lp_table.specs.Headers.{clauses_of, declared_texts, generics_of, grammar_header}
 use Rattle.lp_actions.specs.Parameters.{action_parameters, return_text, width}
-use Rattle.lp_actions.specs.Inlines.{action_fails, call_if, calls_from, inline_lines, inlined_count, inner_arguments, outer_arguments, span_if, spans_from, sum_up_to, total_width, type_arguments}
+use Rattle.lp_actions.specs.Inlines.{action_fails, call_if, calls_from, inline_lines, inlined_count, inner_arguments, outer_arguments, span_if, spans_from, total_width, type_arguments}
 use Rattle.lp_actions.specs.ActionFunctions.{action_functions, action_lines, functions_from, has_parameters, kind_lines, kind_part}
 use Rattle.lp_emitted.proofs.Headers.{header_one}
 use Rattle.lp_emitted.proofs.Rows.{Told, Takes, beside, many_more, many_none, many_one, one_leaf, over_one, text_many, told_leaf}
@@ -31,7 +31,7 @@ span_many prefix total n before (Inlined action inner) = many_one (one_leaf clas
 
 spans_many : {T : Told} (prefix : List ℕ) (total n before : ℕ) (ss : List InlinedSymbol) → Takes T (step.Many class.InlineSpan ∷ []) (spans_from prefix total n before ss)
 spans_many prefix total n before [] = many_none class.InlineSpan
-spans_many prefix total n before (s ∷ ss) = many_more (span_many prefix total n before s) (spans_many prefix total (n + inlined_count s) (sum_up_to before (width s)) ss)
+spans_many prefix total n before (s ∷ ss) = many_more (span_many prefix total n before s) (spans_many prefix total (n + inlined_count s) (before + width s) ss)
 
 end_one : {T : Told} (fallible : Bool) → Takes T (step.One class.CallEnd ∷ []) ((if fallible then part.CallEndFallible else part.CallEndPlain, [], [], 0) ∷ [])
 unfolding steps_of holes_of members_of
@@ -60,7 +60,7 @@ call_many g n before (Inlined action inner) = many_one (call_by (type_arguments 
 
 calls_many : {T : Told} (g : Grammar) (n before : ℕ) (ss : List InlinedSymbol) → Takes T (step.Many class.InlineCall ∷ []) (calls_from g n before ss)
 calls_many g n before [] = many_none class.InlineCall
-calls_many g n before (s ∷ ss) = many_more (call_many g n before s) (calls_many g (n + inlined_count s) (sum_up_to before (width s)) ss)
+calls_many g n before (s ∷ ss) = many_more (call_many g n before s) (calls_many g (n + inlined_count s) (before + width s) ss)
 
 outer_by : {T : Told} (types arguments : List (List ℕ)) (action : List ℕ) (wrapped : Bool) → Takes T (step.One class.OuterCall ∷ [])
     (over (outer_part wrapped types) (action ∷ []) (text_rows part.TypeArgument types ++ text_rows part.ArgumentRow arguments))

@@ -3,6 +3,7 @@ use Rattle.std.proofs.Common.{◌≡◌, ℕ, ◌≤◌, min, Bool, true, false,
 use Rattle.std.specs.BTreeMap.{values}
 use Rattle.std.specs.Int.{w32}
 use Rattle.std.proofs.lemmas.List.Elements.{All-cons, All-nil}
+use Rattle.std.proofs.lemmas.Option.{slice_get-get_or}
 use Rattle.std.proofs.lemmas.Str.{IsCharBoundary-after_ascii, IsUtf8-drop, IsUtf8-nil}
 use Rattle.lp_form.specs.Templates.{steps_of}
 use Rattle.lp_form.specs.Templates as template
@@ -22,7 +23,8 @@ use Rattle.lp_program.specs.OwnLines.{hole}
 use Rattle.lp_program.specs.Reads.{is_prefix}
 use Rattle.lp_program.specs.Trees.{Content, content}
 use Rattle.lp_laws.specs.WellFormed.{IsCodeText, IsUseText, IsWellFormed, StepFits}
-use Rattle.lp_assembly.specs.Built.{IsBuilt}
+use Rattle.lp_parts.specs.Entries.{EntriesFit}
+use Rattle.lp_assembly.specs.Built.{AllFit, IsBuilt}
 use Rattle.lp_fitting.specs.Fitting.{HolesFit, IsFitting}
 use Rattle.lp_emitted.specs.Emittable.{IsEmittable, greatest_of}
 use Rattle.lp_emitted.specs.Laws.{EmittedReadsBack}
@@ -54,15 +56,23 @@ kind_fits (User patterns types code) meets = λ utf8. codes_end code utf8 meets
 kind_fits (Lookaround place) meets = tt
 kind_fits (Inline outer symbols) meets = tt
 
-tables_told : (g : Grammar) (states : List StartStates) → IsEmittable g states → (start : ℕ) (list : StartStates) → slice_get states start ≡ Some list → TablesTold fitting g list.states
-tables_told g states m start list e =
+list_fits : (g : Grammar) (states : List StartStates) → IsEmittable g states → (start : ℕ) (list : StartStates) → slice_get states start ≡ Some list → All EntriesFit list.states
+list_fits g states m start list e =
     let n : ℕ = min (length (productions_of g)) 18446744073709551615 in
     let few = within_greatest n states start list e in
     let least = kept_greatest n states in
     let counts : greatest_of n states ≤ 2147483647 = m.counts in
     let same = length-rules_from g 0 (values g.nonterminals) in
     let valid : IsValidTables g start list.states = subst (λ o. IfSome o (λ l. IsValidTables g start l.states)) e (m.tabled start).1 in
-    let fits = tables_fit g start list.states (omega (arith, few, counts)) (omega (arith, least, counts, same)) valid in
+    tables_fit g start list.states (omega (arith, few, counts)) (omega (arith, least, counts, same)) valid
+
+-- the entries of what may be emitted fit
+pub emitted_entries_fit : (g : Grammar) (states : List StartStates) → IsEmittable g states → AllFit states
+emitted_entries_fit g states m = λ k d lt. list_fits g states m k (get_or states k d) (slice_get-get_or states k d lt)
+
+tables_told : (g : Grammar) (states : List StartStates) → IsEmittable g states → (start : ℕ) (list : StartStates) → slice_get states start ≡ Some list → TablesTold fitting g list.states
+tables_told g states m start list e =
+    let fits = list_fits g states m start list e in
     record { actions = actions_fit (length (terminals_of g)) list.states fits; ends = ends_fit list.states fits }
 
 given_fits : (g : Grammar) (states : List StartStates) → IsEmittable g states → Given fitting g states

@@ -16,3 +16,4 @@ pub mod Halves
 pub mod EntriesFit
 pub mod Prefixes
 pub mod Fitting
+pub mod One

@@ -5,7 +5,7 @@ use Rattle.lp_repr.specs.declared.repr.Grammar.{Grammar}
 use Rattle.lp_tree.specs.declared.tree.Program.{Program}
 use Rattle.lp_program.specs.Reads.{ReadsAs, is_prefix}
 use Rattle.lp_write.specs.declared.rust.Options.{Options}
-use Rattle.lp_assembly.specs.Built.{IsBuilt}
+use Rattle.lp_assembly.specs.Built.{AllFit, IsBuilt}
 use Rattle.lp_fitting.specs.Fitting.{IsFitting}
 use Rattle.lp_laws.specs.AsRead.{IsRead}
 use Rattle.lp_laws.specs.Laws.{text_of}
@@ -18,7 +18,11 @@ use Rattle.lp_emitted.specs.TextsFit.{AreStepsFit}
 abbrev pub BuiltIsShaped : Type 0
 BuiltIsShaped = (g : Grammar) (states : List StartStates) (program : Program) → IsBuilt g states program → IsShaped program
 
--- so it is well formed where its texts fit
+-- of a grammar and its states one program is built, as far as texts tell: all that are have the same text, whatever the options
+abbrev pub BuiltIsOne : Type 0
+BuiltIsOne = (g : Grammar) (states : List StartStates) (one other : Program) (options : Options) → IsBuilt g states one → IsBuilt g states other → text_of options one ≡ text_of options other
+
+-- a program of this shape is well formed where its texts fit
 abbrev pub ShapedIsWellFormed : Type 0
 ShapedIsWellFormed = (program : Program) → IsShaped program → is_prefix program.prefix ≡ true → IsFitting program → AreStepsFit program → IsWellFormed program
 
@@ -38,3 +42,7 @@ EmittedIsWellFormed = (g : Grammar) (states : List StartStates) (program : Progr
 abbrev pub EmittedReadsBack : Type 0
 EmittedReadsBack = (g : Grammar) (states : List StartStates) (program : Program) (options : Options) (read : Program) → IsEmittable g states → IsBuilt g states program → IsFitting program →
     IsRead options.whitespace program read → ReadsAs (text_of options program) read
+
+-- the entries of its tables are numbers of 32 bits
+abbrev pub EmittedEntriesFit : Type 0
+EmittedEntriesFit = (g : Grammar) (states : List StartStates) → IsEmittable g states → AllFit states

@@ -1,11 +1,12 @@
 //! Laws between the building and the printing of programs.
 
-ghost use Rattle.lp_emitted.specs.Laws.{BuiltIsShaped, EmittedFits, EmittedHasPrefix, EmittedIsWellFormed, EmittedReadsBack, ShapedIsWellFormed};
+ghost use Rattle.lp_emitted.specs.Laws.{BuiltIsOne, BuiltIsShaped, EmittedEntriesFit, EmittedFits, EmittedHasPrefix, EmittedIsWellFormed, EmittedReadsBack, ShapedIsWellFormed};
 
 /// The program of a grammar and its states has its parts below one another as the templates say,
 /// whatever the grammar, its texts and its tables are. So it is well formed where its texts may
-/// stand where they do, and then its text reads as that program.
+/// stand where they do, and then its text reads as that program. Its bytes are given, for all options.
 pub fn built()
+    ensures one { BuiltIsOne }
     ensures shaped { BuiltIsShaped }
     ensures well_formed { ShapedIsWellFormed }
 {}
@@ -14,6 +15,7 @@ pub fn built()
 /// may stand where they do, its uses, its user code and its tables fit too, and its prefix is one. So
 /// it is well formed, and its text reads as it.
 pub fn emitted()
+    ensures entries { EmittedEntriesFit }
     ensures fits { EmittedFits }
     ensures prefix { EmittedHasPrefix }
     ensures well_formed { EmittedIsWellFormed }

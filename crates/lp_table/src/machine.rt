@@ -259,25 +259,20 @@ fn simulate_arms<'t>(
 {
     let mut arms = Vec::new(alloc);
     for (number, production) in productions.iter().enumerate() {
-        arms.push(simulate_arm(alloc, shared, number, *production)?)?;
+        arms.push(simulate_arm(shared, number, *production))?;
     }
     Ok(arms)
 }
 
 /// One production of a simulation.
-fn simulate_arm<'t>(
-    alloc: Global,
-    shared: &Shared<'t>,
-    number: usize,
-    production: &Production,
-) -> Result<SimulateArm<'t>, AllocError>
-    ensures { IfOk result (λ a. simulate_row a ≡ simulated_line shared.now.grammar.now (start_of shared.now.start) number production.now) }
+fn simulate_arm<'t>(shared: &Shared<'t>, number: usize, production: &Production) -> SimulateArm<'t>
+    ensures { simulate_row result ≡ simulated_line shared.now.grammar.now (start_of shared.now.start) number production.now }
 {
-    Ok(SimulateArm {
+    SimulateArm {
         production: number as u64,
         reduced: reduced(shared, production),
-        note: Some(made(format!(in alloc; "// simulate {production}")?)),
-    })
+        note: None,
+    }
 }
 
 /// The number of a production as a parameter.

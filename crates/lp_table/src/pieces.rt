@@ -1,6 +1,6 @@
 //! Texts as pieces of a tree.
 
-ghost use Rattle.std.specs.Prelude.{◌≡◌, ◌++◌, codes, string_bytes, IfOk, IfSome, OnOk};
+ghost use Rattle.std.specs.Prelude.{◌≡◌, ◌++◌, codes, string_bytes, IfOk, OnOk};
 ghost use Rattle.std.specs.List.{flat_map};
 ghost use Rattle.lp_parts.specs.Texts.{comma_list};
 ghost use Rattle.lp_table.specs.Pieces.{borrowed_option, unless_empty, variant_text, vec_of};
@@ -9,7 +9,6 @@ use lp_repr::Text;
 use lp_tree::{Name, Piece};
 use std::alloc::{AllocError, Global};
 use std::borrow::CowStr;
-use std::fmt::Display;
 
 /// A text that outlives the tree.
 pub fn lent<'t>(text: &'t str) -> Piece<'t>
@@ -40,13 +39,6 @@ pub fn copied_unless_empty<'t>(alloc: Global, text: &str) -> Result<Option<Piece
         return Ok(None);
     }
     Ok(Some(copied(alloc, text)?))
-}
-
-/// What a value shows.
-pub fn shown<'t, T: Display>(alloc: Global, value: &T) -> Result<Piece<'t>, AllocError>
-    ensures { IfOk result (λ p. IfSome (T.output value.now) (λ text. p ≡ text)) }
-{
-    Ok(made(value.to_string(alloc)?))
 }
 
 /// What a value is always shown as.

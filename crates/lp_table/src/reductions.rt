@@ -246,11 +246,10 @@ fn body<'t>(
     let generics = copied(alloc, shared.parameters.generic_names.as_str())?;
     let arguments = made(action_arguments(alloc, shared, symbols.len())?);
     let produced = produced(alloc, shared, production)?;
-    let note = Some(made(format!(in alloc; "// {production}")?));
     let fallible = shared.is_fallible(production);
     let action = production.action as u64;
     reduce_body(
-        alloc, variants, action, generics, arguments, fallible, produced, note,
+        alloc, variants, action, generics, arguments, fallible, produced, None,
     )
 }
 

@@ -1,4 +1,4 @@
-use Rattle.std.proofs.Common.{rules, ◌≡◌, ◌∙◌, ◌++◌, List, [], IfOk, ap}
+use Rattle.std.proofs.Common.{rules, ◌≡◌, ◌∙◌, ◌++◌, List, [], ap}
 use Rattle.std.specs.List.{flat_map}
 use Rattle.lp_tree.specs.ProgramTree.{Item, items}
 use Rattle.lp_actions.specs.ActionFunctions.{action_functions}
@@ -19,5 +19,6 @@ returns c =
     (flat_map items c.add_tokens.new.below.items) (flat_map items c.put_all-2.new.nodes.items) (flat_map items c.put.new.nodes.items)
     (front_lines c.args.grammar.now) modules (token_lines c.args.grammar.now c.args.grammar.now.intern_token) actions (triple_lines c.args.grammar.now)
     none c.in_ok-add_front.ensures c.in_ok-put_all.ensures c.in_ok-add_tokens.ensures functions last in
-    let prefix : IfOk c.program.result (λ p. p.prefix ≡ c.args.grammar.now.prefix) = search rules in
-    built c.args.grammar.now c.args.states.now c.program.result modules c.put.new.nodes.items c.in_ok-modules.ensures lines prefix c.program.ensures.parts
+    let prefix : c.in_ok-bare.bare.prefix ≡ c.args.grammar.now.prefix = search rules in
+    built c.args.grammar.now c.args.states.now c.in_ok-bare.bare c.noted_program.result modules c.put.new.nodes.items c.in_ok-modules.ensures lines prefix c.in_ok-bare.ensures.parts
+    c.noted_program.ensures.prefix c.noted_program.ensures.parts c.noted_program.ensures.notes

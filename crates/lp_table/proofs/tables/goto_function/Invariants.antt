@@ -8,5 +8,5 @@ use Rattle.lp_table.proofs.tables.goto_function.Given as goal
 
 abbrev pub invariant-loop-nonterminal : goal.invariant-loop-nonterminal
 invariant-loop-nonterminal l =
-    flat_map items l.below.items ++ gotos_from l.shared.states.now l.number l.nonterminal-iterator
+    flat_map items l.below.items ++ gotos_from l.shared.states.now l.number l._nonterminal-iterator
     ≡ gotos_from l.shared.states.now 0 (nonterminals_of l.shared.grammar.now)
