@@ -1,0 +1,108 @@
+//! States in lines.
+
+use crate::actions::show_symbols;
+use crate::grammars::shown_grammar;
+use lp_plain::{BuildFault, BytesFault, build_states, lowered_of};
+use lp_repr::numbering::production_at;
+use lp_repr::repr::Grammar;
+use lp_repr::{Item, Lr1State, ShownItem, ShownToken, Token};
+use std::alloc::{AllocError, Global};
+
+/// The grammar that a text is lowered to, and the states of each of its starts.
+pub fn told_states(alloc: Global, text: &str) -> Result<String, AllocError> {
+    match lowered_of(alloc, text.as_bytes()) {
+        Ok((_, grammar)) => shown_starts(alloc, &grammar),
+        Err(BytesFault::Grammar { place }) => format!(in alloc; "refused at {place}"),
+        Err(BytesFault::Memory) => Err(AllocError),
+    }
+}
+
+fn shown_starts(alloc: Global, grammar: &Grammar) -> Result<String, AllocError> {
+    let mut out = shown_grammar(alloc, grammar)?;
+    for start in 0..grammar.start_nonterminals.len() {
+        write!(out, "states of start {start}\n")?;
+        match build_states(alloc, grammar, start) {
+            Ok(states) => show_states(&mut out, grammar, states.as_slice())?,
+            Err(fault) => show_fault(&mut out, grammar, &fault)?,
+        }
+    }
+    Ok(out)
+}
+
+/// Why a start has no states.
+fn show_fault(out: &mut String, grammar: &Grammar, fault: &BuildFault) -> Result<(), AllocError> {
+    match fault {
+        BuildFault::Conflict { path, token } => {
+            out.push_str("  conflict after")?;
+            show_symbols(out, path.as_slice())?;
+            out.push_str(" on")?;
+            show_token(out, grammar, *token)?;
+            out.push_str("\n")
+        }
+        BuildFault::TooManyStates { .. } => out.push_str("  too many\n"),
+        BuildFault::Memory => Err(AllocError),
+    }
+}
+
+/// Per state its items, shifts, gotos and reductions.
+fn show_states(out: &mut String, grammar: &Grammar, states: &[Lr1State]) -> Result<(), AllocError> {
+    for (number, state) in states.iter().enumerate() {
+        write!(out, "state {number}\n")?;
+        show_items(out, grammar, state.items.as_slice())?;
+        show_shifts(out, grammar, state)?;
+        show_gotos(out, state)?;
+        show_reductions(out, grammar, state)?;
+    }
+    Ok(())
+}
+
+fn show_items(out: &mut String, grammar: &Grammar, items: &[Item]) -> Result<(), AllocError> {
+    for item in items {
+        if let Some(production) = production_at(grammar, item.production) {
+            let shown = ShownItem {
+                terminals: &grammar.terminals,
+                production,
+                item,
+            };
+            write!(out, "    {shown}\n")?;
+        }
+    }
+    Ok(())
+}
+
+fn show_shifts(out: &mut String, grammar: &Grammar, state: &Lr1State) -> Result<(), AllocError> {
+    for (terminal, target) in state.shifts.iter() {
+        out.push_str("  shift")?;
+        show_token(out, grammar, Token::Terminal(*terminal))?;
+        write!(out, " to {target}\n")?;
+    }
+    Ok(())
+}
+
+fn show_gotos(out: &mut String, state: &Lr1State) -> Result<(), AllocError> {
+    for (nonterminal, target) in state.gotos.iter() {
+        write!(out, "  goto {nonterminal} to {target}\n")?;
+    }
+    Ok(())
+}
+
+fn show_reductions(
+    out: &mut String,
+    grammar: &Grammar,
+    state: &Lr1State,
+) -> Result<(), AllocError> {
+    for (tokens, production) in state.reductions.as_slice() {
+        write!(out, "  reduce {production} on")?;
+        for token in tokens.as_slice() {
+            show_token(out, grammar, *token)?;
+        }
+        out.push_str("\n")?;
+    }
+    Ok(())
+}
+
+fn show_token(out: &mut String, grammar: &Grammar, token: Token) -> Result<(), AllocError> {
+    let terminals = &grammar.terminals;
+    let shown = ShownToken { terminals, token };
+    write!(out, " {shown}")
+}
