@@ -1,5 +1,5 @@
 -- What a reduction would do, and whether a stack of states accepts a token.
-use Rattle.std.specs.Prelude.{ℕ, ◌||◌, Bool, true, false, List, [], ◌∷◌, ◌++◌, codes, Option, Some, None, if◌then◌else◌}
+use Rattle.std.specs.Prelude.{ℕ, ◌+◌, ◌||◌, Bool, true, false, List, [], ◌∷◌, ◌++◌, codes, Option, Some, None, if◌then◌else◌}
 use Rattle.lp_core.specs.declared.expr.Function.{Function}
 use Rattle.lp_core.specs.declared.expr.Join.TheVariants as join
 use Rattle.lp_core.specs.declared.expr.Leaf.TheVariants as leaf
@@ -15,7 +15,7 @@ use Rattle.lp_maker.specs.Slots.{Names, after_slots, bound}
 use Rattle.lp_maker.specs.Constructs.{stuck, read, take_slot, write, joined, one_after_another, give_back, on_tags, on_option, index, function_of}
 use Rattle.lp_maker.specs.Making.{Making, read_name, call_named, parameters}
 use Rattle.lp_bodies.specs.Arms.{Gathered, no_arms, with_header, with_number_case, with_body, choice_function}
-use Rattle.lp_bodies.specs.Reductions.{next_slot, slice_type, states}
+use Rattle.lp_bodies.specs.Reductions.{slice_type, states}
 
 abbrev pub is_simulated : Form → Bool
 is_simulated row = is_a part.SimulateAccept row || is_a part.SimulateArm row
@@ -116,7 +116,7 @@ trial_turn m names kind states =
     ∷ simulated_parts (simulated_call m action) slot pop
     ∷ write length (joined join.Subtract (read length ∷ read pop ∷ []))
     ∷ joined join.Truncate (read states ∷ read length ∷ [])
-    ∷ []) ++ goto_lines m kind states (next_slot pop) length (goto_names names).next)
+    ∷ []) ++ goto_lines m kind states (pop + 1) length (goto_names names).next)
 
 -- the lines of a trial, where the copy of the states has this slot
 abbrev pub accepts_lines : Making → Names → Option StateType → List Tree
@@ -132,4 +132,4 @@ accepts_under m names kind =
 
 -- whether a stack of states accepts a token
 abbrev pub accepts_function : Making → Form → Function
-accepts_function m header = accepts_under m (parameters m.prefix header) (slice_type header)
+accepts_function m header = accepts_under m (parameters m.prefix header) (slice_type m.prefix header)

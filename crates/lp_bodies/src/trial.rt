@@ -135,7 +135,7 @@ pub fn accepts<'p>(maker: &Maker<'p>, header: Form<'p>) -> Result<Function, Allo
     ensures { IfOk result (λ f. f ≡ accepts_function (making maker.now) (listed header.entry)) }
 {
     let scope = maker.parameters(header)?;
-    accepts_under(maker, scope, slice_type(header))
+    accepts_under(maker, scope, slice_type(maker.prefix, header))
 }
 
 fn accepts_under<'p>(
@@ -167,10 +167,10 @@ fn trial_turn<'p>(
     ensures value { IfOk result (λ v. v ≡ trial_turn (making maker.now) scope.old kind states) }
     ensures names { OnOk result (scope.new ≡ turn_end scope.old) }
 {
-    let length = scope.fresh();
-    let top = scope.fresh();
-    let action = scope.fresh();
-    let integer = scope.fresh();
+    let length = scope.fresh()?;
+    let top = scope.fresh()?;
+    let action = scope.fresh()?;
+    let integer = scope.fresh()?;
     let measured = maker.apply(Op::Length, Expr::read(states))?;
     let measured = maker.write(length, measured)?;
     let last = last_state(maker, kind, states, length)?;
@@ -180,14 +180,14 @@ fn trial_turn<'p>(
     let refused = answer_if(maker, Op::IsZero, action, false)?;
     let shifted = answer_if(maker, Op::IsPositive, action, true)?;
     let simulated = simulated_call(maker, action)?;
-    let slot = scope.fresh();
-    let pop = scope.fresh_many(2);
+    let slot = scope.fresh()?;
+    let pop = scope.fresh_many(2)?;
     let opened = simulated_parts(maker, simulated, slot, pop)?;
     let less = maker.pair(Join::Subtract, Expr::read(length), Expr::read(pop))?;
     let less = maker.write(length, less)?;
     let cut = maker.pair(Join::Truncate, Expr::read(states), Expr::read(length))?;
-    let from = scope.fresh();
-    let next = pop.saturating_add(1);
+    let from = scope.fresh()?;
+    let next = pop + 1;
     let mut parts = vec![in maker.alloc;
         measured, last, entry, refused, shifted, opened, less, cut,
     ]?;
