@@ -29,10 +29,10 @@ item_value closure item token =
 -- `match ~tokens.next() { .. }`: the next token, where an error of the token source is returned
 abbrev pub next_token : Making → Names → Tree
 next_token m names =
-    on_option (Plain leaf.NextItem) names.next absent (item_value m.item_closure names.next (after_slots 1 names).next)
+    on_option (Plain leaf.NextItem) names.next absent (item_value m.item_closure names.next (names.next + 1))
 
 abbrev pub after_token : Names → Names
-after_token names = after_slots 1 (after_slots 1 names)
+after_token names = after_slots 2 names
 
 -- `let ~lookahead = ..;`
 abbrev pub token_line : Making → Lines → Lines

@@ -27,9 +27,8 @@ pub fn next_token<'p>(maker: &Maker<'p>, scope: &mut Scope) -> Result<Expr, Allo
     ensures value { IfOk result (λ v. v ≡ next_token (making maker.now) scope.old) }
     ensures names { OnOk result (scope.new ≡ after_token scope.old) }
 {
-    let item = scope.fresh()?;
-    let token = scope.fresh()?;
-    let inside = item_value(maker, item, token)?;
+    let item = scope.fresh_many(2)?;
+    let inside = item_value(maker, item, item + 1)?;
     maker.on_option(Expr::plain(Leaf::NextItem), item, maker.absent(), inside)
 }
 

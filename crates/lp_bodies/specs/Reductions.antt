@@ -248,24 +248,15 @@ reduced_lines m names kind pop nonterminal length state produced =
     ∷ absent
     ∷ []
 
--- the names after the two parts of what was produced, after the length, and after the state
-abbrev pub after_pop : Names → Names
-after_pop names = after_slots 2 names
-
-abbrev pub after_length : Names → Names
-after_length names = after_slots 1 (after_pop names)
-
-abbrev pub after_state : Names → Names
-after_state names = after_slots 1 (after_length names)
-
-abbrev pub reduced : Making → Names → Option StateType → Tree → Tree
-reduced m names kind produced =
-    one_after_another (reduced_lines m names kind names.next (names.next + 1) (after_pop names).next (after_length names).next produced)
+-- the four slots stand one after another, the first one of them here
+abbrev pub reduced : Making → Names → Option StateType → ℕ → Tree → Tree
+reduced m names kind first produced =
+    one_after_another (reduced_lines m names kind first (first + 1) (first + 2) (first + 3) produced)
 
 -- the function of what the arms produce
 abbrev pub reduce_with : Making → Option StateType → Gathered → Function
 reduce_with m kind a =
-    function_of a.params (after_state (after_slots 1 a.names)) (reduced m (after_slots 1 a.names) kind (choice (read_name a.names (codes "~action")) stuck a))
+    function_of a.params (after_slots 4 (after_slots 1 a.names)) (reduced m a.names kind (after_slots 1 a.names).next (choice (read_name a.names (codes "~action")) stuck a))
 
 -- the reductions by production, and what is made then
 abbrev pub reduce_function : Making → Form → Function

@@ -1,13 +1,13 @@
 //! Reductions of table-driven code.
 
-ghost use Rattle.std.specs.Prelude.{◌≡◌, Some, length, IfOk, OnOk};
+ghost use Rattle.std.specs.Prelude.{◌≡◌, ◌+◌, ◌<◌, ◌^◌, Some, length, IfOk, OnOk};
 ghost use Rattle.std.specs.Option.{option_copied, option_map};
 ghost use Rattle.lp_view.specs.PartLists.{hole_of, listed};
 ghost use Rattle.lp_maker.specs.Making.{making, with_function, with_variant};
 ghost use Rattle.lp_maker.specs.Texts.{after_front};
 ghost use Rattle.lp_bodies.specs.Arms.{gathered};
 ghost use Rattle.lp_bodies.specs.Lines.{lines_of};
-ghost use Rattle.lp_bodies.specs.Reductions.{work_of, symbols, assert_line, pop_line, symbol_side, span_popped, span_at, part_function, with_last_end, last_end_number, empty_place, span_empty, reduced_call, checked, called_value, called_names, call_line, start_line, symbol_triple, push_line, is_call, quiet_line, reduce_line, reduce_lines, done_of, reduce_body, found_body, arm_call, reduce_arm, after_both, type_row, element_type, vec_type, slice_type, arming_of, is_arm, arm_row, with_arm, reduce_row, reduce_from, states, push_next, top_of, after_state, reduced, reduce_with, reduce_function, with_reduce, production_function, with_production_of, reduce_fn, with_reduce_fn, mismatch, pop_match, pop_lines, pop_function};
+ghost use Rattle.lp_bodies.specs.Reductions.{work_of, symbols, assert_line, pop_line, symbol_side, span_popped, span_at, part_function, with_last_end, last_end_number, empty_place, span_empty, reduced_call, checked, called_value, called_names, call_line, start_line, symbol_triple, push_line, is_call, quiet_line, reduce_line, reduce_lines, done_of, reduce_body, found_body, arm_call, reduce_arm, after_both, type_row, element_type, vec_type, slice_type, arming_of, is_arm, arm_row, with_arm, reduce_row, reduce_from, states, push_next, top_of, reduced, reduce_with, reduce_function, with_reduce, production_function, with_production_of, reduce_fn, with_reduce_fn, mismatch, pop_match, pop_lines, pop_function};
 
 use crate::arms::Arms;
 use crate::lines::push_let;
@@ -89,7 +89,8 @@ fn reduce_with<'p>(
 {
     let action = maker.name(&arms.scope, "~action");
     let (params, mut scope, produced) = arms.choice(maker.alloc, action, Expr::stuck())?;
-    let body = reduced(maker, &mut scope, kind, produced)?;
+    let first = scope.fresh_many(4)?;
+    let body = reduced(maker, &scope, kind, first, produced)?;
     Ok(maker.function(params, &scope, body))
 }
 
@@ -114,26 +115,27 @@ fn top_of<'p>(maker: &Maker<'p>, kind: Option<StateType>, list: Expr) -> Result<
     }
 }
 
-// Takes the states of what was reduced off, and pushes the goto.
+// Takes the states of what was reduced off, and pushes the goto. The first one of four slots is here.
 fn reduced<'p>(
     maker: &Maker<'p>,
-    scope: &mut Scope,
+    scope: &Scope,
     kind: Option<StateType>,
+    first: usize,
     produced: Expr,
 ) -> Result<Expr, AllocError>
-    ensures value { IfOk result (λ v. v ≡ reduced (making maker.now) scope.old kind produced) }
-    ensures names { OnOk result (scope.new ≡ after_state scope.old) }
+    requires { first + 4 < 2 ^ 64 }
+    ensures { IfOk result (λ v. v ≡ reduced (making maker.now) scope.now kind first produced) }
 {
-    let (pop, unpacked) = maker.unpack(scope, 2, produced)?;
-    let length = scope.fresh()?;
-    let state = scope.fresh()?;
+    let length = first + 2;
+    let state = first + 3;
+    let unpacked = maker.apply(Op::Parts(first, 2), produced)?;
     let measured = maker.apply(Op::Length, states(maker, scope))?;
     let measured = maker.write(length, measured)?;
-    let cut = maker.pair(Join::Subtract, Expr::read(length), Expr::read(pop))?;
+    let cut = maker.pair(Join::Subtract, Expr::read(length), Expr::read(first))?;
     let truncated = maker.pair(Join::Truncate, states(maker, scope), cut)?;
     let top = top_of(maker, kind, states(maker, scope))?;
     let top = maker.write(state, top)?;
-    let pushed = push_next(maker, scope, state, pop + 1)?;
+    let pushed = push_next(maker, scope, state, first + 1)?;
     let parts = vec![in maker.alloc; unpacked, measured, truncated, top, pushed, maker.absent()]?;
     Ok(Expr::block(parts))
 }
