@@ -447,12 +447,12 @@ fn pattern_arms<'p>(
     variant: Tag,
     token: usize,
     names: &[&str],
-    patterns: &str,
+    text: &str,
 ) -> Result<Arms, AllocError>
-    ensures { IfOk result (λ arms. reading_of (gathered arms) (making maker.new) ≡ pattern_arms variant token (map (λ name. name.now) names.now) (reading_of no_arms (making maker.old)) (patterns patterns.now)) }
+    ensures { IfOk result (λ arms. reading_of (gathered arms) (making maker.new) ≡ pattern_arms variant token (map (λ name. name.now) names.now) (reading_of no_arms (making maker.old)) (patterns text.now)) }
 {
     let mut arms = Arms::new(maker.alloc);
-    for pattern in patterns_of(patterns) {
+    for pattern in patterns_of(text) {
         pattern_arm(maker, variant, token, names, pattern, &mut arms)?;
     }
     Ok(arms)

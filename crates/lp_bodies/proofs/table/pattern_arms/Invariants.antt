@@ -8,4 +8,4 @@ use Rattle.lp_bodies.proofs.table.pattern_arms.Given as goal
 
 abbrev pub invariant-loop-pattern : goal.invariant-loop-pattern
 invariant-loop-pattern l =
-    pattern_arms l.variant l.token (map (λ name. name.now) l.names) (reading_of (gathered l.arms) (making l.maker)) (patterns_left l.pattern-iterator) ≡ pattern_arms l.variant l.token (map (λ name. name.now) l.names) (reading_of no_arms (making l.fn.maker)) (patterns l.patterns)
+    pattern_arms l.variant l.token (map (λ name. name.now) l.names) (reading_of (gathered l.arms) (making l.maker)) (patterns_left l.pattern-iterator) ≡ pattern_arms l.variant l.token (map (λ name. name.now) l.names) (reading_of no_arms (making l.fn.maker)) (patterns l.text)

@@ -23,7 +23,7 @@ returns c =
     let found = gathered c.in_ok-arms.arms in
     let arms : reading_of found made ≡ pattern_arms (variant_tag (hole_of 2 row) m) names.next (captures_of (hole_of 3 row)) (reading_of no_arms (with_variant (hole_of 2 row) m)) (patterns (hole_of 1 row)) =
     c.in_ok-arms.ensures
-    ∙ arms_by c.in_ok-variant.variant _ slot _ (map (λ (x : Bor (List ℕ)). x.now) c.as_slice.result.now) _ (making c.variant.new.self) _ _ _
+    ∙ arms_by c.in_ok-variant.variant _ slot _ (map (λ (x : Bor (List ℕ)). x.now) c.as_slice.result.now) _ (making c.variant.new.self) _ (patterns c.hole-3.result.now) _
     (c.in_ok-variant.ensures.tag ∙ ap (λ (t : List ℕ). variant_tag t m) c.hole.ensures)
     c.in_ok-slot.ensures.slot
     (ap (map (λ (x : Bor (List ℕ)). x.now)) c.as_slice.ensures.value ∙ c.in_ok-names.ensures ∙ ap captures_of c.hole-2.ensures)
