@@ -16,12 +16,17 @@ use Rattle.lp_core.specs.OpMeaning.{leaf_meaning, op_meaning}
 use Rattle.lp_core.specs.JoinMeaning.{join_meaning, join_calls}
 use Rattle.lp_core.specs.CaseMeaning.{chosen}
 use Rattle.lp_core.specs.Flow.{State, Flow, Gives, Returns, Spent, Stuck, flow, then_value, choose, over_store, with_body, spend_from, turns, leave}
-use Rattle.lp_core.specs.Eval.{Callee, count, joined, called, apply, eval, eval_args, eval_block, eval_at, entered, enter_with, enter, call_within}
+use Rattle.lp_core.specs.Eval.{Callee, count, with_calls, joined, called, apply, eval, eval_args, eval_block, eval_at, entered, enter_with, enter, call_within}
 use Rattle.lp_core.specs.Prefix.{IsPrefix}
 
 add_nil : (l : List UserCall) → l ≡ l ++ []
 add_nil [] = refl
 add_nil (x ∷ l) = ap (λ r. x ∷ r) (add_nil l)
+
+-- calls more are behind the others
+pub with_calls_all : (more : List UserCall) (st : State) → with_calls more st ≡ record st { calls = st.calls ++ more }
+with_calls_all [] st = ap (λ calls. record st { calls = calls }) (add_nil st.calls)
+with_calls_all (call ∷ more) st = refl
 
 pub same_prefix : (c : List UserCall) → IsPrefix c c
 same_prefix c = ([], add_nil c)
@@ -85,11 +90,15 @@ module _ (k : ℕ) (c : List UserCall) where
   leave_falls env n (Spent calls) a = a
   leave_falls env n (Stuck left calls) a = a
 
+  calls_within : (more : List UserCall) (st : State) → Within k c st → Within k c (with_calls more st)
+  calls_within [] st le = le
+  calls_within (call ∷ more) st le = (le.0, more_prefix c st.calls (call ∷ more) le.1)
+
   module _ (p : Program) where
     joined_falls : (j : Join) (vs : List Val) → Falls k c (joined p j vs)
     joined_falls j vs st le =
         let more = join_calls p (length st.calls) j vs in
-        flow_falls (record st { calls = st.calls ++ more }) (join_meaning p (length st.calls) j vs st.store) (le.0, more_prefix c st.calls more le.1)
+        flow_falls (with_calls more st) (join_meaning p (length st.calls) j vs st.store) (calls_within more st le)
 
     enter_when : (b : Bool) (fn : Function) (ev : Tree → State → Flow) (vs : List Val) (st : State) → Within k c st → ((e : Tree) → Falls k c (ev e)) → After k c (if b then enter_with p fn ev vs st else Stuck st.left st.calls)
     enter_when true fn ev vs st le h = leave_falls st.store.env (length st.store.cells) (ev fn.body (entered p fn vs st)) (h fn.body (entered p fn vs st) le)

@@ -5,6 +5,7 @@ use Rattle.std.specs.declared.alloc.Global.{Global}
 use Rattle.lp_core.specs.declared.expr.Op.{Op}
 use Rattle.lp_core.specs.declared.expr.Case.{Case}
 use Rattle.lp_core.specs.declared.expr.Function.{Function}
+use Rattle.lp_core.specs.declared.expr.Join.{Join}
 use Rattle.lp_core.specs.declared.expr.Target.{Target}
 use Rattle.lp_core.specs.declared.expr.Target.TheVariants as target
 use Rattle.lp_core.specs.declared.machine.Frame.{Frame}
@@ -20,11 +21,15 @@ use Rattle.lp_core.specs.Datum.{Unset}
 use Rattle.lp_core.specs.Val.{Val, Plain}
 use Rattle.lp_core.specs.Tree.{Tree, Apply, If, Match, Loop, end, trees_of}
 use Rattle.lp_core.specs.Reading.{truth_of}
-use Rattle.lp_core.specs.Store.{UserCall, Program}
+use Rattle.lp_core.specs.Store.{Store, UserCall, Program}
+use Rattle.lp_core.specs.Effect.{Effect, Gave, Failed, effect as effect_of}
+use Rattle.lp_core.specs.Effect as effect
+use Rattle.lp_core.specs.JoinMeaning.{join_meaning, join_calls}
 use Rattle.lp_core.specs.CaseMeaning.{chosen}
-use Rattle.lp_core.specs.Flow.{State, Flow, Returns, Spent, Stuck, then_value, choose, with_body, spend_from, turns, leave}
-use Rattle.lp_core.specs.Eval.{apply, count, run, run_args, run_block, run_at, run_call, enter, enter_with, entered}
+use Rattle.lp_core.specs.Flow.{State, Flow, Returns, Spent, Stuck, flow, then_value, choose, with_body, spend_from, turns, leave}
+use Rattle.lp_core.specs.Eval.{with_calls, apply, count, run, run_args, run_block, run_at, run_call, enter, enter_with, entered}
 use Rattle.lp_core.specs.FrameView.{done_flow, frame_flow, rest, step_flow, now_flow, pause_flow}
+use Rattle.lp_core.proofs.Falls.{with_calls_all}
 use Rattle.lp_core.proofs.Same.{run_next, run_if, run_match, run_more, run_end, run_loop}
 
 module _ (p : Program) where
@@ -74,6 +79,24 @@ module _ (p : Program) where
   pub args_done : (g : ℕ) (t : Target) (args : List Tree) (vs : List Val) (st : State) → args ≡ [] → t ≡ target.Function g → run_call p g vs st ≡ run_args p t (trees_of args) vs st
   args_done g t args vs st none is =
       sym (ap (λ a. run_args p t (trees_of a) vs st) none ∙ ap (λ u. run_args p u end vs st) is ∙ run_end p g vs st)
+
+  flow_over : (st : State) (store : Store) (e : Effect) → flow (record st { store = store }) e ≡ flow st e
+  flow_over st store (Gave v t) = refl
+  flow_over st store (effect.Returned v t) = refl
+  flow_over st store Failed = refl
+
+  -- what is done with several values, once all of them are there
+  pub join_done : (frs : List Frame) (t : Target) (j : Join) (args : List Tree) (vs : List Val) (st : State) (done : Done) (store : Store) (calls : List UserCall) → args ≡ [] → t ≡ target.Join j
+      → effect_of done store ≡ join_meaning p (length st.calls) j vs st.store → calls ≡ st.calls ++ join_calls p (length st.calls) j vs
+      → rest p frs (done_flow done (record { store = store; calls = calls; left = st.left })) ≡ rest p frs (run_args p t (trees_of args) vs st)
+  join_done frs t j args vs st done store calls none is same made =
+      let after : State = with_calls (join_calls p (length st.calls) j vs) st in
+      let behind : record { store = store; calls = calls; left = st.left } ≡ record after { store = store } =
+      ap (λ (l : List UserCall). record { store = store; calls = l; left = st.left }) made
+      ∙ ap (λ (x : State). record x { store = store }) (sym (with_calls_all (join_calls p (length st.calls) j vs) st)) in
+      ap (rest p frs)
+      (ap (λ (x : State). flow x (effect_of done store)) behind ∙ flow_over after store (effect_of done store) ∙ ap (flow after) same
+      ∙ sym (ap (λ a. run_args p t (trees_of a) vs st) none ∙ ap (λ u. run_args p u end vs st) is))
 
   -- the last frame goes on
   pub resumed : (frs frs' : List Frame) (fr : Frame) (now now' : Now) (d : Done) (st st' : State) → now ≡ n.Ended d → frs ≡ frs' ++ fr ∷ [] → now_flow p now' st' ≡ frame_flow p fr (done_flow d st) → rest p frs' (now_flow p now' st') ≡ rest p frs (now_flow p now st)

@@ -15,7 +15,7 @@ use Rattle.lp_core.specs.OpMeaning.{leaf_meaning, op_meaning}
 use Rattle.lp_core.specs.JoinMeaning.{join_meaning, join_calls}
 use Rattle.lp_core.specs.CaseMeaning.{chosen}
 use Rattle.lp_core.specs.Flow.{State, Flow, Gives, Returns, Spent, Stuck, flow, then_value, choose, over_store, with_body, spend_from, turns, leave}
-use Rattle.lp_core.specs.Eval.{Callee, count, called, apply, eval, eval_args, eval_block, eval_at, entered, enter_with, enter, call_within, run, run_call}
+use Rattle.lp_core.specs.Eval.{Callee, count, with_calls, called, apply, eval, eval_args, eval_block, eval_at, entered, enter_with, enter, call_within, run, run_call}
 use Rattle.lp_core.specs.Prefix.{IsPrefix}
 use Rattle.lp_core.specs.Budget.{calls_in, more_left, Longer}
 use Rattle.lp_core.proofs.Same.{enter_at}
@@ -54,6 +54,10 @@ module _ (d : ℕ) where
   flow_longer st (Gave v s) = refl
   flow_longer st (Returned v s) = refl
   flow_longer st Failed = refl
+
+  calls_longer : (more : List UserCall) (st : State) (e : Effect) → Longer d (flow (with_calls more st) e) (flow (with_calls more (more_left d st)) e)
+  calls_longer [] st e = flow_longer st e
+  calls_longer (call ∷ more) st e = flow_longer (with_calls (call ∷ more) st) e
 
   then_longer : (fl fl' : Flow) (go go' : Val → State → Flow) → Longer d fl fl' → ((v : Val) → LongerTo d (go v) (go' v)) → ((v : Val) → Adds (go' v)) → Longer d (then_value fl go) (then_value fl' go')
   then_longer (Gives v st) fl' go go' e h a = subst (λ x. Longer d (go v st) (then_value x go')) (sym e) (h v st)
@@ -145,7 +149,7 @@ module _ (d : ℕ) where
       called_longer (target.Function f) vs st =
           spend_longer st.left (st.left + d) st (call f vs) (call' f vs) refl (calls f vs) (adds_of (call' f vs) (λ k c. falls k c f vs))
       called_longer (target.Join j) vs st =
-          flow_longer (record st { calls = st.calls ++ join_calls p (length st.calls) j vs }) (join_meaning p (length st.calls) j vs st.store)
+          calls_longer (join_calls p (length st.calls) j vs) st (join_meaning p (length st.calls) j vs st.store)
 
       mutual
         eval_longer : (e : Tree) → LongerTo d (eval p call n e) (eval p call' m e)

@@ -10,7 +10,7 @@ use Rattle.lp_core.specs.Val.{Val, Plain}
 use Rattle.lp_core.specs.Tree.{Tree, Apply, If, Match, Loop, Call, Block, Trees, end, more}
 use Rattle.lp_core.specs.Tree as tree
 use Rattle.lp_core.specs.Reading.{truth_of}
-use Rattle.lp_core.specs.Store.{Program}
+use Rattle.lp_core.specs.Store.{UserCall, Program}
 use Rattle.lp_core.specs.OpMeaning.{leaf_meaning, op_meaning}
 use Rattle.lp_core.specs.JoinMeaning.{join_meaning, join_calls}
 use Rattle.lp_core.specs.CaseMeaning.{chosen}
@@ -25,11 +25,15 @@ abbrev pub count : Trees → ℕ
 count end = 0
 count (more e es) = suc (count es)
 
+-- calls of user code more
+abbrev pub with_calls : List UserCall → State → State
+with_calls [] st = st
+with_calls (c ∷ cs) st = record st { calls = st.calls ++ c ∷ cs }
+
 module _ (p : Program) where
   -- an operation on several values, after the calls that it makes
   abbrev pub joined : Join → List Val → State → Flow
-  joined j vs st =
-      flow (record st { calls = st.calls ++ join_calls p (length st.calls) j vs }) (join_meaning p (length st.calls) j vs st.store)
+  joined j vs st = flow (with_calls (join_calls p (length st.calls) j vs) st) (join_meaning p (length st.calls) j vs st.store)
 
   -- a call of a function is a step
   abbrev pub called : Callee → Target → List Val → State → Flow
