@@ -241,6 +241,10 @@ module _ (g : Grammar) (states : List Lr1State) (s : Start) where
   unfolding items_driven implementation
   machine_typed = refl
 
+  pub machine_is : items_driven.machine ≡ implementation g states s
+  unfolding items_driven
+  machine_is = refl
+
   -- the row that declares the simulation
   pub simulation_declared : Declares (over part.TableItems [] (table_items g states s)) (codes "simulate_reduce") [] (simulation g states s)
   unfolding opened
