@@ -65,6 +65,21 @@ pub over_extends : {S : Type 0} (made : S → Making) (step : S → Form → S) 
 over_extends made step h s [] = same (made s)
 over_extends made step h s (f ∷ fs) = both (made s) (made (step s f)) (made (over step (step s f) fs)) (h s f) (over_extends made step h (step s f) fs)
 
+-- what is kept of tables
+pub record Tabled (m n : Making) : Type 0 where
+  pub tables : n.tables ≡ m.tables
+  pub action_table : n.action_table ≡ m.action_table
+  pub eof_table : n.eof_table ≡ m.eof_table
+
+pub tabled_same : (m : Making) → Tabled m m
+tabled_same m = record { tables = refl; action_table = refl; eof_table = refl }
+
+pub tabled_both : (m n o : Making) → Tabled m n → Tabled n o → Tabled m o
+tabled_both m n o f g = record { tables = g.tables ∙ f.tables; action_table = g.action_table ∙ f.action_table; eof_table = g.eof_table ∙ f.eof_table }
+
+pub tabled_more : (m n : Making) → Extends m n → Tabled m n
+tabled_more m n e = record { tables = e.tables; action_table = e.action_table; eof_table = e.eof_table }
+
 -- ---- tables and tokens
 
 integers_extend : (m : Making) (form : Form) → Extends m (with_integers form m)

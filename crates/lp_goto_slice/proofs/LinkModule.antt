@@ -19,7 +19,7 @@ use Rattle.lp_run.specs.Named.{parser_of, is_interned}
 use Rattle.lp_run.specs.Entered.{with_closure, sourced, with_source, made_after, module_made}
 use Rattle.lp_run.specs.Module.{Module}
 use Rattle.lp_goto_slice.proofs.LinkMaps.{numbered_other, get_more, get_end, get_set_other}
-use Rattle.lp_goto_slice.proofs.LinkGrows.{Extends, same, both, one_function, one_text, one_variant, either, over_extends, is_of_tables}
+use Rattle.lp_goto_slice.proofs.LinkGrows.{Tabled, tabled_same, tabled_both, Extends, same, both, one_function, one_text, one_variant, either, over_extends, is_of_tables}
 use Rattle.lp_goto_slice.proofs.LinkPromises.{AreNoAscent, Linked, row_linked}
 
 -- ---- actions
@@ -47,6 +47,12 @@ action_kept m r j x ne h =
 actions_kept : (m : Making) (rs : List (ℕ × Form)) (j n : ℕ) (x : Option Function) → Below n rs → n ≤ j → slice_get m.functions j ≡ Some x → slice_get (actions_made m rs).functions j ≡ Some x
 actions_kept m [] j n x b le h = h
 actions_kept m (r ∷ rs) j n x b le h = actions_kept (action_made m r) rs j n x b.1 le (action_kept m r j x (λ e. (let a = b.0 in omega arith)) h)
+
+pub actions_tabled : (m : Making) (rs : List (ℕ × Form)) → Tabled m (actions_made m rs)
+actions_tabled m [] = tabled_same m
+actions_tabled m (r ∷ rs) =
+    let e = code_extends (slice_get (parts_of r.1) 0) (slice_get (parts_of r.1) 1) m in
+    tabled_both m (action_made m r) (actions_made (action_made m r) rs) (record { tables = e.tables; action_table = e.action_table; eof_table = e.eof_table }) (actions_tabled (action_made m r) rs)
 
 actions_know : (m : Making) (rs : List (ℕ × Form)) → (actions_made m rs).names ≡ m.names
 actions_know m [] = refl
@@ -93,6 +99,27 @@ closure_sourced false m = (refl, simp length-append (omega arith), refl)
 source_sourced : (located : Bool) (m : Making) (o : Option Form) → Sourced m (sourced located m o)
 source_sourced located m None = closure_sourced located m
 source_sourced located m (Some parser) = either (Sourced m) (is_interned parser) _ _ (refl, omega arith, refl) (closure_sourced located m)
+
+-- and neither makes a table
+row_tabled : (b : Beginning) (form : Form) → Tabled b.actions.made (beginning_row b form).actions.made
+row_tabled b form =
+    let P : Beginning → Type 0 = λ (c : Beginning). Tabled b.actions.made c.actions.made in
+    either P (is_source form) _ _ (tabled_same b.actions.made) (either P (is_action form) _ _ (record { tables = refl; action_table = refl; eof_table = refl }) (tabled_same b.actions.made))
+
+rows_tabled : (b : Beginning) (fs : List Form) → Tabled b.actions.made (over beginning_row b fs).actions.made
+rows_tabled b [] = tabled_same b.actions.made
+rows_tabled b (f ∷ fs) = tabled_both b.actions.made (beginning_row b f).actions.made (over beginning_row (beginning_row b f) fs).actions.made (row_tabled b f) (rows_tabled (beginning_row b f) fs)
+
+pub begun_tabled : (prefix : List ℕ) (program : Form) → Tabled (unmade prefix) (beginning (unmade prefix) program).actions.made
+begun_tabled prefix program = rows_tabled (beginning_of false [] (unmade prefix)) (parts_of program)
+
+closure_tabled : (located : Bool) (m : Making) → Tabled m (with_closure located m)
+closure_tabled true m = record { tables = refl; action_table = refl; eof_table = refl }
+closure_tabled false m = record { tables = refl; action_table = refl; eof_table = refl }
+
+pub source_tabled : (located : Bool) (m : Making) (o : Option Form) → Tabled m (sourced located m o)
+source_tabled located m None = closure_tabled located m
+source_tabled located m (Some parser) = either (Tabled m) (is_interned parser) _ _ (tabled_same m) (closure_tabled located m)
 
 -- ---- methods
 
@@ -206,12 +233,17 @@ row_made prefix program items form name rest r =
       function = actions_kept all b.actions.promises k (length b.actions.made.functions) (Some (function_made l.maker form).function) begins.below (omega (arith, from.1, l.late)) l.function;
     }
 
+pub all_extends : (form : Form) (fields : Names) (count : ℕ) (m : Making) → Extends m (with_methods form fields count m)
+all_extends form fields count m =
+    both m (after_goto form m) (with_methods form fields count m) (both m (after_eof form m) (after_goto form m) (earlier_extends form m) (one_function _ (after_eof form m))) (later_extends form fields count m)
+
 -- the module: it drives these methods, and has their functions and those that were made before
 pub record ModuleMade (made : Module) (last : Making) (machine : Form) : Type 0 where
   pub names : Names
   pub fields : List (Option ℕ)
   pub parses : made.parse ≡ By_driver (methods_of machine names (length fields) last) fields
   pub functions : made.functions ≡ map finished (with_methods machine names (length fields) last).functions
+  pub tables : made.tables ≡ last.tables
 
 pub module_is_made : (prefix : List ℕ) (program items : Form) (d : IsDriven items) → ModuleMade (module_made prefix program items) (complete prefix program items) d.machine
 unfolding complete module_made made_after
@@ -219,15 +251,11 @@ module_is_made prefix program items d =
     let last = complete prefix program items in
     let own = fields (parameters_of prefix items) d.drive in
     let whole : parse_made last items (parameters_of prefix items) ≡ driving last own (Some d.machine) = parse_is items d last (parameters_of prefix items) in
-    record { names = own.names; fields = own.numbers; parses = ap (λ (p : Parsing). p.parse) whole; functions = ap (λ (p : Parsing). map finished p.made.functions) whole }
+    record { names = own.names; fields = own.numbers; parses = ap (λ (p : Parsing). p.parse) whole; functions = ap (λ (p : Parsing). map finished p.made.functions) whole; tables = ap (λ (p : Parsing). p.made.tables) whole ∙ (all_extends d.machine own.names (length own.numbers) last).tables }
 
 -- a function of a module that stands among those that were made
 pub finished_there : (fs : List (Option Function)) (j : ℕ) (f : Function) → slice_get fs j ≡ Some (Some f) → slice_get (map finished fs) j ≡ Some f
 finished_there fs j f h = slice_get-map finished fs j ∙ ap (option_map finished) h
-
-pub all_extends : (form : Form) (fields : Names) (count : ℕ) (m : Making) → Extends m (with_methods form fields count m)
-all_extends form fields count m =
-    both m (after_goto form m) (with_methods form fields count m) (both m (after_eof form m) (after_goto form m) (earlier_extends form m) (one_function _ (after_eof form m))) (later_extends form fields count m)
 
 -- the function of a row of the module
 pub row_function : (prefix : List ℕ) (made : Module) (last : Making) (machine form : Form) (name : List ℕ) (is : ModuleMade made last machine) (r : RowMade prefix last name form) → slice_get made.functions r.number ≡ Some (function_made r.maker form).function

@@ -11,7 +11,7 @@ use Rattle.lp_run.specs.Promised.{Promising, promising_of, promised, lookup_name
 use Rattle.lp_run.specs.Functions.{function_made, one_made, all_made}
 use Rattle.lp_goto_slice.proofs.GotoCode.{over-append}
 use Rattle.lp_goto_slice.proofs.LinkMaps.{numbered_here, numbered_kept, get_more, get_end, get_set, get_set_other}
-use Rattle.lp_goto_slice.proofs.LinkGrows.{either, is_of_tables, made_extends}
+use Rattle.lp_goto_slice.proofs.LinkGrows.{either, is_of_tables, made_extends, Tabled, tabled_same, tabled_both}
 
 -- ---- declaring
 
@@ -156,7 +156,7 @@ one_there m r is lt =
     ∙ get_set made.making.functions r.0 (Some made.function) less
 
 -- what is made over all promises knows the names
-abbrev AreOfTables : List (ℕ × Form) → Type 0
+abbrev pub AreOfTables : List (ℕ × Form) → Type 0
 AreOfTables [] = Unit {0}
 AreOfTables (r ∷ rs) = (is_of_tables r.1 ≡ true) × AreOfTables rs
 
@@ -179,6 +179,18 @@ names_stay m (r ∷ rs) o = names_stay (one_made m r) rs o.1 ∙ (made_extends m
 prefix_stays : (m : Making) (rs : List (ℕ × Form)) → AreOfTables rs → (all_made m rs).prefix ≡ m.prefix
 prefix_stays m [] o = refl
 prefix_stays m (r ∷ rs) o = prefix_stays (one_made m r) rs o.1 ∙ (made_extends m r.1 o.0).prefix
+
+-- promises of a module without recursive ascent
+pub promised_are : (m : Making) (fs : List Form) → AreNoAscent fs → AreOfTables (over module_row (promising_of [] m) fs).promises
+promised_are m fs a =
+    let g = rows_go_on (promising_of [] m) fs a in
+    subst AreOfTables (sym g.promises.1) (between_are (length m.functions) (length (over module_row (promising_of [] m) fs).made.functions) g.promises.0 g.promises.2)
+
+pub tables_stay : (m : Making) (rs : List (ℕ × Form)) → AreOfTables rs → Tabled m (all_made m rs)
+tables_stay m [] o = tabled_same m
+tables_stay m (r ∷ rs) o =
+    let e = made_extends m r.1 o.0 in
+    tabled_both m (one_made m r) (all_made (one_made m r) rs) (record { tables = e.tables; action_table = e.action_table; eof_table = e.eof_table }) (tables_stay (one_made m r) rs o.1)
 
 within : (fs : List (Option Function)) (k : ℕ) (x : Option Function) → slice_get fs k ≡ Some x → k < length fs
 within [] k x h = absurd cc

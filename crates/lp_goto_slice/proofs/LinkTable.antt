@@ -1,5 +1,5 @@
 -- The rows of the built module of table-driven code.
-use Rattle.std.proofs.Common.{◌≡◌, ℕ, ◌+◌, Bool, true, false, List, [], ◌∷◌, ◌++◌, length, Some, None, refl, ap, ◌∙◌, append_assoc, append-nil, if◌then◌else◌}
+use Rattle.std.proofs.Common.{◌≡◌, ℕ, ◌+◌, Bool, true, false, List, [], ◌∷◌, ◌++◌, length, Some, None, refl, ap, sym, subst, ◌∙◌, append_assoc, append-nil, if◌then◌else◌}
 use Rattle.std.specs.Prelude.{codes, decimal, ◌==◌}
 use Rattle.lp_form.specs.declared.part.Part.TheVariants as part
 use Rattle.lp_repr.specs.declared.lr1.Lr1State.{Lr1State}
@@ -20,14 +20,45 @@ use Rattle.lp_table.specs.TokenLines.{token_numbers, token_symbols}
 use Rattle.lp_table.specs.BuiltTable.{table_items}
 use Rattle.lp_view.specs.PartLists.{Form, hole_of, is_a, parts_of, first_that}
 use Rattle.lp_view.specs.PartLists as view
-use Rattle.lp_maker.specs.Making.{Making, number_in, first_numbered}
-use Rattle.lp_run.specs.Named.{is_parser}
-use Rattle.lp_run.specs.Promised.{with_action_table, Promising, promising_of, module_row, is_ascent}
+use Rattle.lp_maker.specs.Making.{Making, Entries, number_in, first_numbered, unmade}
+use Rattle.lp_bodies.specs.Tables.{printed_table, with_terminal, with_terminals}
+use Rattle.lp_run.specs.Named.{is_parser, parser_of}
+use Rattle.lp_run.specs.Entered.{with_source}
+use Rattle.lp_run.specs.Functions.{all_made, actions_made}
+use Rattle.lp_run.specs.Promised.{with_action_table, with_eof_table, Promising, promising_of, promised, beginning, module_row, module_rows, declared_row, lookup_name, trial_name, header_number, is_lookup, is_trial, is_reduction, is_ascent}
 use Rattle.lp_goto_slice.proofs.Whole.{IsWhole, AreWhole, flat, parts_over, flat-append, whole-append}
 use Rattle.lp_goto_slice.proofs.LinkMaps.{numbered_other, told_apart}
-use Rattle.lp_goto_slice.proofs.LinkGrows.{either}
-use Rattle.lp_goto_slice.proofs.LinkPromises.{AreNoAscent, terminals_quiet}
-use Rattle.lp_goto_slice.proofs.LinkModule.{IsDriven, Declares}
+use Rattle.lp_goto_slice.proofs.LinkGrows.{either, Tabled, tabled_same, tabled_both}
+use Rattle.lp_goto_slice.proofs.LinkPromises.{AreNoAscent, AreOfTables, promised_are, tables_stay, terminals_quiet}
+use Rattle.lp_goto_slice.proofs.LinkModule.{IsDriven, Declares, complete, begun_tabled, source_tabled, actions_tabled}
+
+-- forms that are no tables
+abbrev pub AreUntabled : List Form → Type 0
+AreUntabled [] = Unit {0}
+AreUntabled (f ∷ fs) = (is_a part.ActionTable f ≡ false) × (is_a part.EofTable f ≡ false) × AreUntabled fs
+
+terminals_tabled : (m : Making) (fs : List Form) → Tabled m (view.over with_terminal m fs)
+terminals_tabled m [] = tabled_same m
+terminals_tabled m (f ∷ fs) = tabled_both m (with_terminal m f) (view.over with_terminal (with_terminal m f) fs) (record { tables = refl; action_table = refl; eof_table = refl }) (terminals_tabled (with_terminal m f) fs)
+
+-- their rows make none
+untabled_row : (s : Promising) (form : Form) → is_a part.ActionTable form ≡ false → is_a part.EofTable form ≡ false → Tabled s.made (module_row s form).made
+untabled_row s form a b =
+    let P : Promising → Type 0 = λ (t : Promising). Tabled s.made t.made in
+    let kept : (name rest : List ℕ) → P (promised name rest s form) = λ name rest. record { tables = refl; action_table = refl; eof_table = refl } in
+    subst P (sym (ap (λ (x : Bool). if x then promising_of s.promises (with_action_table form s.made) else (if is_a part.EofTable form then promising_of s.promises (with_eof_table form s.made) else (if is_a part.TerminalList form then promising_of s.promises (with_terminals form s.made) else declared_row s form))) a
+    ∙ ap (λ (x : Bool). if x then promising_of s.promises (with_eof_table form s.made) else (if is_a part.TerminalList form then promising_of s.promises (with_terminals form s.made) else declared_row s form)) b))
+    (either P (is_a part.TerminalList form) _ _ (terminals_tabled s.made (parts_of form))
+    (either P (is_lookup form) _ _ (kept (lookup_name form) []) (either P (is_trial form) _ _ (kept (trial_name form) [])
+    (either P (is_reduction form) _ _
+    (either P (is_a part.Pop form) _ _ (kept (codes "pop_") (hole_of 0 form)) (either P (is_a part.ReduceFn form) _ _ (kept (codes "reduce") (header_number form)) (either P (is_a part.Reduce form) _ _ (kept (codes "reduce") []) (kept (codes "symbol_type_mismatch") []))))
+    (either P (is_ascent form) _ _
+    (either P (is_a part.StateFn form) _ _ (kept (codes "state") (header_number form)) (either P (is_a part.AscentSimulate form) _ _ (kept (codes "simulate") []) (either P (is_a part.AscentAccepts form) _ _ (kept (codes "accepts") []) (kept (codes "expected") []))))
+    (tabled_same s.made))))))
+
+untabled_rows : (s : Promising) (fs : List Form) → AreUntabled fs → Tabled s.made (view.over module_row s fs).made
+untabled_rows s [] a = tabled_same s.made
+untabled_rows s (f ∷ fs) a = tabled_both s.made (module_row s f).made (view.over module_row (module_row s f) fs).made (untabled_row s f a.0 a.1) (untabled_rows (module_row s f) fs a.2)
 
 module _ (g : Grammar) where
   pub pops : ℕ → List (List ℕ) → List Form
@@ -48,6 +79,11 @@ module _ (g : Grammar) where
   unfolding pops
   pops_plain n [] = tt
   pops_plain n (ty ∷ types) = (refl, pops_plain (n + 1) types)
+
+  pops_untabled : (n : ℕ) (types : List (List ℕ)) → AreUntabled (pops n types)
+  unfolding pops
+  pops_untabled n [] = tt
+  pops_untabled n (ty ∷ types) = (refl, refl, pops_untabled (n + 1) types)
 
   module _ (s : Start) where
     pub one_own : Bool → ℕ → Production → List Form
@@ -84,6 +120,19 @@ module _ (g : Grammar) where
         by : (b : Bool) → AreNoAscent (owns (n + 1) ps) → AreNoAscent (one_own b n p ++ owns (n + 1) ps)
         by true h = (refl, h)
         by false h = h
+
+    owns_untabled : (n : ℕ) (ps : List Production) → AreUntabled (owns n ps)
+    unfolding owns
+    owns_untabled n [] = tt
+    owns_untabled n (p ∷ ps) = by (is_called g s p) (owns_untabled (n + 1) ps)
+      where
+        by : (b : Bool) → AreUntabled (owns (n + 1) ps) → AreUntabled (one_own b n p ++ owns (n + 1) ps)
+        by true h = (refl, refl, h)
+        by false h = h
+
+untabled-append : (fs gs : List Form) → AreUntabled fs → AreUntabled gs → AreUntabled (fs ++ gs)
+untabled-append [] gs a b = b
+untabled-append (f ∷ fs) gs a b = (a.0, a.1, untabled-append fs gs a.2 b)
 
 plain-append : (fs gs : List Form) → AreNoAscent fs → AreNoAscent gs → AreNoAscent (fs ++ gs)
 plain-append [] gs a b = b
@@ -160,6 +209,61 @@ module _ (g : Grammar) (states : List Lr1State) (s : Start) where
   after_plain : AreNoAscent rows_after
   unfolding opened
   after_plain = (refl, (refl, (refl, (refl, (refl, (refl, (refl, (refl, (parser_is (λ f. is_ascent f ≡ false) (λ b h e. by_both (λ b. is_ascent (over (parser_part false b) h e) ≡ false) refl refl b), (refl, (refl, (refl, plain-append (pops g 0 (variant_types_shown g)) (owns g s 0 (productions_of g)) (pops_plain g 0 (variant_types_shown g)) (owns_plain g s 0 (productions_of g))))))))))))))
+
+  -- after the two tables no table comes
+  lookup_untabled : (is_a part.ActionTable (action_lookup g states) ≡ false) × (is_a part.EofTable (action_lookup g states) ≡ false)
+  unfolding opened
+  lookup_untabled = (lookup_is (λ f. is_a part.ActionTable f ≡ false) (λ t n. refl) (λ t n. refl), lookup_is (λ f. is_a part.EofTable f ≡ false) (λ t n. refl) (λ t n. refl))
+
+  after_untabled : AreUntabled (goto_function g states ∷ rows_after)
+  unfolding opened
+  after_untabled = (
+    refl,
+    refl,
+    (
+      refl,
+      refl,
+      (
+        refl,
+        refl,
+        (
+          refl,
+          refl,
+          (
+            refl,
+            refl,
+            (
+              refl,
+              refl,
+              (
+                refl,
+                refl,
+                (
+                  refl,
+                  refl,
+                  (
+                    refl,
+                    refl,
+                    (
+                      parser_is (λ f. is_a part.ActionTable f ≡ false) (λ b h e. by_both (λ b. is_a part.ActionTable (over (parser_part false b) h e) ≡ false) refl refl b),
+                      parser_is (λ f. is_a part.EofTable f ≡ false) (λ b h e. by_both (λ b. is_a part.EofTable (over (parser_part false b) h e) ≡ false) refl refl b),
+                      (refl, refl, (refl, refl, (refl, refl, untabled-append (pops g 0 (variant_types_shown g)) (owns g s 0 (productions_of g)) (pops_untabled g 0 (variant_types_shown g)) (owns_untabled g s 0 (productions_of g))))),
+                    ),
+                  ),
+                ),
+              ),
+            ),
+          ),
+        ),
+      ),
+    ),
+  )
+
+  -- the tables of what was made
+  pub record TablesMade (last : Making) : Type 0 where
+    pub tables : last.tables ≡ printed_table (action_table g states) ∷ printed_table (end_table g states) ∷ []
+    pub action_table : last.action_table ≡ 0
+    pub eof_table : last.eof_table ≡ 1
 
   -- the rows of the module
   pub item_rows : parts_of (over part.TableItems [] (table_items g states s)) ≡ rows_before ++ goto_function g states ∷ rows_after
@@ -240,6 +344,42 @@ module _ (g : Grammar) (states : List Lr1State) (s : Start) where
   pub machine_typed : hole_of 7 items_driven.machine ≡ state_text g states
   unfolding items_driven implementation
   machine_typed = refl
+
+  rows_tabled : (m : Making) → m.tables ≡ [] → TablesMade (module_rows m (over part.TableItems [] (table_items g states s))).made
+  unfolding opened
+  rows_tabled m none =
+      let t0 = promising_of [] m in
+      let t2 = module_row (module_row t0 (symbol_values g)) (action_table g states) in
+      let t3 = module_row t2 (action_lookup g states) in
+      let t4 = module_row t3 (end_table g states) in
+      let look = untabled_row t2 (action_lookup g states) lookup_untabled.0 lookup_untabled.1 in
+      let more = untabled_rows t4 (goto_function g states ∷ rows_after) after_untabled in
+      let whole : module_rows m (over part.TableItems [] (table_items g states s)) ≡ view.over module_row t4 (goto_function g states ∷ rows_after) = ap (view.over module_row t0) item_rows in
+      subst (λ (t : Promising). TablesMade t.made) (sym whole) (record {
+        tables = more.tables ∙ ap (λ (l : List Entries). l ++ printed_table (end_table g states) ∷ []) (look.tables ∙ ap (λ (l : List Entries). l ++ printed_table (action_table g states) ∷ []) none);
+        action_table = more.action_table ∙ look.action_table ∙ ap length none;
+        eof_table = more.eof_table ∙ ap length (look.tables ∙ ap (λ (l : List Entries). l ++ printed_table (action_table g states) ∷ []) none);
+      })
+
+  goto_plain : is_ascent (goto_function g states) ≡ false
+  unfolding goto_function
+  goto_plain = refl
+
+  -- all that is made has the two tables
+  pub tables_made : (prefix : List ℕ) (program : Form) → TablesMade (complete prefix program (over part.TableItems [] (table_items g states s)))
+  unfolding complete
+  tables_made prefix program =
+      let items = over part.TableItems [] (table_items g states s) in
+      let b = beginning (unmade prefix) program in
+      let m = with_source items b.located b.actions.made in
+      let t = module_rows m items in
+      let all = all_made t.made t.promises in
+      let begun = begun_tabled prefix program in
+      let from = source_tabled b.located b.actions.made (parser_of items) in
+      let made = rows_tabled m (from.tables ∙ begun.tables) in
+      let of_tables : AreOfTables t.promises = promised_are m (parts_of items) (subst AreNoAscent (sym item_rows) (plain-append rows_before (goto_function g states ∷ rows_after) before_plain (goto_plain, after_plain))) in
+      let stay = tabled_both t.made all (actions_made all b.actions.promises) (tables_stay t.made t.promises of_tables) (actions_tabled all b.actions.promises) in
+      record { tables = stay.tables ∙ made.tables; action_table = stay.action_table ∙ made.action_table; eof_table = stay.eof_table ∙ made.eof_table }
 
   pub machine_is : items_driven.machine ≡ implementation g states s
   unfolding items_driven
