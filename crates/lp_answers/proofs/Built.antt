@@ -1,16 +1,24 @@
 -- A program that runs the built module: its methods, and the first answers of a run.
-use Rattle.std.proofs.Common.{◌≡◌, ℕ, ◌≤◌, ◌-◌, pos, Bool, false, if◌then◌else◌, List, [], ◌∷◌, ◌++◌, length, map, Option, Some, None, refl, sym, ap, ◌∙◌, subst, arith}
+use Rattle.std.proofs.Common.{◌≡◌, ℕ, ◌≤◌, ◌-◌, ℤ, pos, Bool, false, if◌then◌else◌, List, [], ◌∷◌, ◌++◌, length, map, Option, Some, None, refl, sym, ap, ◌∙◌, subst, arith}
 use Rattle.std.specs.Prelude.{slice_get}
-use Rattle.std.specs.Option.{option_map}
-use Rattle.lp_repr.specs.Numbering.{productions_of}
+use Rattle.std.specs.Option.{option_map, option_and_then}
+use Rattle.std.proofs.lemmas.Option.{slice_get-map}
+use Rattle.lp_repr.specs.Numbering.{productions_of, terminals_of}
+use Rattle.lp_parts.specs.Entries.{action_entries, end_entries}
+use Rattle.lp_bodies.specs.Tables.{printed_table}
+use Rattle.lp_table.specs.TableLines.{action_table, end_table}
 use Rattle.lp_repr.specs.declared.lr1.Lr1State.{Lr1State}
 use Rattle.lp_repr.specs.declared.repr.Grammar.{Grammar}
 use Rattle.lp_repr.specs.declared.values.Loc.TheVariants.{Default}
-use Rattle.lp_driver.specs.Questions.{Start_location, Start_state, Uses_recovery}
+use Rattle.lp_driver.specs.Questions.{Start_location, Start_state, Uses_recovery, Eof_action, Said}
 use Rattle.lp_core.specs.declared.expr.Function.{Function}
+use Rattle.lp_core.specs.declared.expr.Table.{Table}
 use Rattle.lp_core.specs.declared.expr.Leaf.TheVariants as leaf
 use Rattle.lp_core.specs.declared.value.StateType.{StateType}
+use Rattle.lp_core.specs.Numbers.{number, fitting, typed}
+use Rattle.lp_core.specs.Reading.{state_of}
 use Rattle.lp_core.specs.Tree as tree
+use Rattle.lp_core.specs.Val.{Val}
 use Rattle.lp_core.specs.Tree.{Tree}
 use Rattle.lp_form.specs.declared.part.Part.TheVariants as part
 use Rattle.lp_tree.specs.ProgramTree.{leaf as form_leaf}
@@ -20,7 +28,7 @@ use Rattle.lp_build.specs.Built as built
 use Rattle.lp_view.specs.PartLists.{Form, hole_of, is_a, parts_of, over}
 use Rattle.lp_maker.specs.declared.methods.Methods.{Methods}
 use Rattle.lp_maker.specs.Constructs.{state, stuck}
-use Rattle.lp_maker.specs.Making.{Making}
+use Rattle.lp_maker.specs.Making.{Making, Entries, entries_of}
 use Rattle.lp_maker.specs.Texts.{state_type_of}
 use Rattle.lp_bodies.specs.MachineMethods.{Recovering, recovery_row, recovery_rows, with_methods, methods_of, after_expected}
 use Rattle.lp_bodies.specs.Source.{function, default_location}
@@ -33,23 +41,31 @@ use Rattle.lp_table.specs.MachineLines.{implementation, phantom_text, recovery_v
 use Rattle.lp_table.specs.Starts.{Start, state_text}
 use Rattle.lp_turns.specs.Asking.{Asking}
 use Rattle.lp_turns.specs.declared.runner.Runner.{Runner}
-use Rattle.lp_turns.specs.DriverCall.{program_answers}
+use Rattle.lp_turns.specs.DriverCall.{program_answers, or_stuck, asks, state_value}
 use Rattle.lp_run.specs.Entered.{module_made}
 use Rattle.lp_run.specs.ParseMethod.{By_driver}
 use Rattle.lp_goto_slice.proofs.GotoAnswered.{built_items}
 use Rattle.lp_goto_slice.proofs.LinkModule.{complete, ModuleMade, module_is_made}
-use Rattle.lp_goto_slice.proofs.LinkTable.{items_driven, machine_is, machine_typed}
+use Rattle.lp_goto_slice.proofs.LinkTable.{items_driven, machine_is, machine_typed, tables_made}
 use Rattle.lp_goto_slice.proofs.StateTypes.{numbers_of}
 use Rattle.lp_goto_slice.proofs.Whole.{AreWhole, flat, parts_over}
-use Rattle.lp_asked.specs.Runners.{Asks, Replies}
+use Rattle.lp_alike.specs.Answered.{entry}
+use Rattle.lp_asked.specs.Runners.{Asks, asking_over, Replies}
+use Rattle.lp_asked.proofs.Asked.{asks_replies}
+use Rattle.lp_machine.specs.Lookup.{act_at}
+use Rattle.lp_repr.specs.declared.lr1.Token.TheVariants.{Eof}
+use Rattle.lp_goto_slice.proofs.GotoCode.{IsState}
 use Rattle.lp_answers.proofs.Begins.{location_replies, state_replies, recovery_replies}
-use Rattle.lp_answers.proofs.Methods.{location_method, state_method, recovery_method, method_there}
+use Rattle.lp_answers.proofs.Entries.{end_at}
+use Rattle.lp_answers.proofs.Looks.{entry_code, entry_found, looked_up}
+use Rattle.lp_answers.proofs.Methods.{eof_method, error_kept, location_method, state_method, recovery_method, method_there}
 
 -- a program has the functions of the built module, and is asked by its methods
 pub record RunsBuilt (prefix : List ℕ) (program : Form) (g : Grammar) (states : List Lr1State) (st : Start) (asked : Asking) (methods : Methods) : Type 0 where
   pub fields : List (Option ℕ)
   pub parses : (module_made prefix program (built_items g states st)).parse ≡ By_driver methods fields
   pub functions : asked.program.functions ≡ (module_made prefix program (built_items g states st)).functions
+  pub tables : map entries_of asked.program.tables ≡ (module_made prefix program (built_items g states st)).tables
 
 module _ {prefix : List ℕ} {program : Form} {g : Grammar} {states : List Lr1State} {st : Start} {asked : Asking} {methods : Methods} (runs : RunsBuilt prefix program g states st asked methods) where
   abbrev pub last : Making
@@ -61,7 +77,7 @@ module _ {prefix : List ℕ} {program : Form} {g : Grammar} {states : List Lr1St
   pub is_made : ModuleMade (module_made prefix program (built_items g states st)) last machine
   is_made = module_is_made prefix program (built_items g states st) (items_driven g states st)
 
-  same_methods : methods_of machine is_made.names (length is_made.fields) last ≡ methods
+  pub same_methods : methods_of machine is_made.names (length is_made.fields) last ≡ methods
   same_methods = (let e : By_driver (methods_of machine is_made.names (length is_made.fields) last) is_made.fields ≡ By_driver methods runs.fields = sym is_made.parses ∙ runs.parses in cc)
 
   -- a method of the module is the program's
@@ -79,6 +95,43 @@ module _ {prefix : List ℕ} {program : Form} {g : Grammar} {states : List Lr1St
   state_runs =
       method_runs (λ m. m.start_state) _ (state_method machine is_made.names (length is_made.fields) last)
       ∙ ap (λ (t : List ℕ). Some (function 0 0 (state (state_type_of t) (Some (pos 0))))) (machine_typed g states st)
+
+-- ---- tables
+-- a program has a table of this number, with this state type and these entries
+pub record HasTable (asked : Asking) (n : ℕ) (kind : Option StateType) (entries : List ℤ) : Type 0 where
+  pub table : Table
+  pub there : slice_get asked.program.tables n ≡ Some table
+  pub typed_so : table.entry_type ≡ kind
+  pub holds : table.entries.items ≡ entries
+
+table_in : (asked : Asking) (n : ℕ) (e : Entries) (o : Option Table) → slice_get asked.program.tables n ≡ o → option_map entries_of o ≡ Some e → HasTable asked n e.kind e.numbers
+table_in asked n e None is h = cc
+table_in asked n e (Some table) is h =
+    let same : entries_of table ≡ e = cc in
+    record { table = table; there = is; typed_so = ap (λ (x : Entries). x.kind) same; holds = ap (λ (x : Entries). x.numbers) same }
+
+module _ {prefix : List ℕ} {program : Form} {g : Grammar} {states : List Lr1State} {st : Start} {asked : Asking} {methods : Methods} (runs : RunsBuilt prefix program g states st asked methods) where
+  two_tables : map entries_of asked.program.tables ≡ printed_table (action_table g states) ∷ printed_table (end_table g states) ∷ []
+  two_tables = runs.tables ∙ (is_made runs).tables ∙ (tables_made g states st prefix program).tables
+
+  pub actions_there : HasTable asked 0 (state_type_of (state_text g states)) (action_entries (length (terminals_of g)) states)
+  unfolding action_table
+  actions_there =
+      table_in asked 0 (printed_table (action_table g states)) (slice_get asked.program.tables 0) refl (sym (slice_get-map entries_of asked.program.tables 0) ∙ ap (λ (l : List Entries). slice_get l 0) two_tables)
+
+  pub ends_there : HasTable asked 1 (state_type_of (state_text g states)) (end_entries states)
+  unfolding end_table
+  ends_there =
+      table_in asked 1 (printed_table (end_table g states)) (slice_get asked.program.tables 1) refl (sym (slice_get-map entries_of asked.program.tables 1) ∙ ap (λ (l : List Entries). slice_get l 1) two_tables)
+
+  -- the method for the end of the items looks an entry up
+  pub end_runs : slice_get asked.program.functions methods.eof_action ≡ Some (entry_code 1)
+  end_runs =
+      let form = (items_driven g states st).machine in
+      let all = complete prefix program (built_items g states st) in
+      let is = is_made runs in
+      method_runs runs (λ m. m.eof_action) _ (eof_method form is.names (length is.fields) all)
+      ∙ ap (λ (n : ℕ). Some (entry_code n)) (error_kept form is.names (length is.fields) all ∙ (tables_made g states st prefix program).eof_table)
 
 -- ---- whether errors are mended
 -- rows of fields change nothing
@@ -140,3 +193,19 @@ module _ {prefix : List ℕ} {program : Form} {g : Grammar} {states : List Lr1St
 
     pub recovery_answered : g.uses_error_recovery ≡ false → Replies asked methods closure d most (λ x. x ≡ false) (program_answers Uses_recovery d)
     recovery_answered off = recovery_replies asked methods closure d h most few (there (λ m. m.uses_error_recovery) _ (recovery_runs off))
+
+    -- the entry of a state at the end of the items, where the state type holds it
+    pub eof_answered : (kind : StateType) → state_type_of (state_text g states) ≡ Some kind → (q : ℕ) (s : Lr1State) → slice_get states q ≡ Some s → IsState kind q → fitting kind (entry (act_at states q Eof)) ≡ Some (entry (act_at states q Eof))
+        → Replies asked methods closure d most (λ x. x ≡ entry (act_at states q Eof)) (program_answers (Eof_action (pos q)) d)
+    eof_answered kind is q s at small fits =
+        let e = entry (act_at states q Eof) in
+        let table = ends_there runs in
+        let p = d.asked.program in
+        let same : slice_get p.tables 1 ≡ Some table.table = ap (λ (a : Asking). slice_get a.program.tables 1) h.program ∙ table.there in
+        let found = entry_found p 1 q table.table kind e same (table.typed_so ∙ is) (ap (λ (l : List ℤ). slice_get l q) table.holds ∙ end_at states q s at) fits in
+        let typed_is : d.methods.state_type ≡ Some kind = ap (λ (m : Methods). m.state_type) (h.by ∙ sym (same_methods runs)) ∙ ap state_type_of (machine_typed g states st) ∙ is in
+        let said : Option Val → Said ℤ Runner = λ (o : Option Val). or_stuck o d (λ v. asks state_of d.methods.eof_action (v ∷ []) d) in
+        let value : state_value d (pos q) ≡ Some (number kind (pos q)) = ap (λ (o : Option StateType). option_and_then (λ (k : StateType). typed k (pos q)) o) typed_is ∙ ap (option_map (number kind)) small.fits in
+        subst (λ (o : Option Val). Replies asked methods closure d most (λ x. x ≡ e) (said o)) (sym value)
+        (asks_replies asked methods closure state_of d.methods.eof_action (number kind (pos q) ∷ []) d most (λ x. x ≡ e) 1 (number kind e) (asking_over [] d) e h
+        (looked_up p d.methods.eof_action 1 q kind (asking_over [] d) (number kind e) (there (λ m. m.eof_action) _ (end_runs runs)) found) refl refl refl few)

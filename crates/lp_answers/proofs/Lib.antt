@@ -1,4 +1,5 @@
+pub mod Looks
 pub mod Methods
+pub mod Entries
 pub mod Built
 pub mod Begins
-pub mod Entries

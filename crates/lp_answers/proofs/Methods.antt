@@ -10,9 +10,9 @@ use Rattle.lp_maker.specs.Constructs.{called, take_slot, state}
 use Rattle.lp_maker.specs.Making.{Making, with_function, number_in, finished}
 use Rattle.lp_bodies.specs.Actions.{takes}
 use Rattle.lp_bodies.specs.Source.{function, default_location}
-use Rattle.lp_bodies.specs.Trials.{eof_entry}
 use Rattle.lp_bodies.specs.MachineMethods.{recovery_rows, with_method, after_location, after_state, after_index, after_action, after_error, after_eof, after_goto, after_symbol, after_expected, after_recovery, after_reduce, with_methods, methods_of}
 use Rattle.lp_run.specs.Module.{Module}
+use Rattle.lp_answers.proofs.Looks.{entry_code}
 use Rattle.lp_goto_slice.proofs.LinkMaps.{get_more, get_end}
 use Rattle.lp_goto_slice.proofs.LinkGrows.{Extends, both, one_function}
 use Rattle.lp_goto_slice.proofs.LinkModule.{recovery_extends, later_extends, earlier_extends, finished_there, ModuleMade}
@@ -75,6 +75,14 @@ module _ (form : Form) (fields : Names) (count : ℕ) (m : Making) where
   pub action_method : (k : ℕ) → number_in (codes "action") m.names ≡ Some k → slice_get all.functions numbers.action ≡ Some (Some (function 2 0 (called (takes 2) (Some k))))
   action_method k h =
       there (after_index form m) all _ from_action ∙ ap (λ (o : Option ℕ). Some (Some (function 2 0 (called (takes 2) o)))) (ap (number_in (codes "action")) names_at_action ∙ h)
+
+  -- the table at the end of the items is the one that was made
+  pub error_kept : (after_error form m).eof_table ≡ m.eof_table
+  error_kept =
+      (both m (after_action form m) (after_error form m) (both m (after_index form m) (after_action form m) (both m (after_state form m) (after_index form m) (both m (after_location m) (after_state form m) (one_function _ m) (one_function _ (after_location m))) (one_function _ (after_state form m))) (one_function _ (after_index form m))) (one_function _ (after_action form m))).eof_table
+
+  pub eof_method : slice_get all.functions numbers.eof_action ≡ Some (Some (entry_code (after_error form m).eof_table))
+  eof_method = there (after_error form m) all _ from_eof
 
   -- whether errors are mended
   pub recovery_method : slice_get all.functions numbers.uses_error_recovery ≡ Some (Some (function 0 0 (recovery_rows (after_expected form m) form).uses))
