@@ -20,7 +20,7 @@ use Rattle.lp_run.specs.Entered.{with_closure, sourced, with_source, made_after,
 use Rattle.lp_run.specs.Module.{Module}
 use Rattle.lp_goto_slice.proofs.LinkMaps.{numbered_other, get_more, get_end, get_set_other}
 use Rattle.lp_goto_slice.proofs.LinkGrows.{Tabled, tabled_same, tabled_both, Extends, same, both, one_function, one_text, one_variant, either, over_extends, is_of_tables}
-use Rattle.lp_goto_slice.proofs.LinkPromises.{AreNoAscent, Linked, row_linked}
+use Rattle.lp_goto_slice.proofs.LinkPromises.{AreNoAscent, Linked, row_linked, tables_stay}
 
 -- ---- actions
 
@@ -207,6 +207,7 @@ pub record RowMade (prefix : List ℕ) (last : Making) (name : List ℕ) (form :
   pub maker : Making
   pub knows : maker.names ≡ last.names
   pub same : maker.prefix ≡ prefix
+  pub action_table : maker.action_table ≡ last.action_table
   pub function : slice_get last.functions number ≡ Some (Some (function_made maker form).function)
 
 pub row_made : (prefix : List ℕ) (program items form : Form) (name rest : List ℕ) → Declares items name rest form → RowMade prefix (complete prefix program items) (name ++ rest) form
@@ -230,6 +231,7 @@ row_made prefix program items form name rest r =
       maker = l.maker;
       knows = l.knows ∙ sym names;
       same = l.prefix ∙ from.2 ∙ begins.same;
+      action_table = l.tabled.action_table ∙ sym (tabled_both s.made all (actions_made all b.actions.promises) (tables_stay s.made s.promises l.of_tables) (actions_tabled all b.actions.promises)).action_table;
       function = actions_kept all b.actions.promises k (length b.actions.made.functions) (Some (function_made l.maker form).function) begins.below (omega (arith, from.1, l.late)) l.function;
     }
 

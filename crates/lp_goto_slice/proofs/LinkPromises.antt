@@ -203,13 +203,14 @@ all-append m (r ∷ rs) ts = all-append (one_made m r) rs ts
 
 -- the function of a promise, where all others have other numbers
 pub made_there : (m : Making) (rs ts : List (ℕ × Form)) (k : ℕ) (form : Form) (x : Option Function) → Others k rs → is_of_tables form ≡ true → Others k ts → slice_get m.functions k ≡ Some x →
-    (n : Making) × (n.names ≡ m.names) × (n.prefix ≡ m.prefix) × (slice_get (all_made m (rs ++ (k, form) ∷ ts)).functions k ≡ Some (Some (function_made n form).function))
+    (n : Making) × (n.names ≡ m.names) × (n.prefix ≡ m.prefix) × Tabled m n × (slice_get (all_made m (rs ++ (k, form) ∷ ts)).functions k ≡ Some (Some (function_made n form).function))
 made_there m rs ts k form x o is o' h =
     let n = all_made m rs in
     let here = all_kept m rs k x o h in (
       n,
       names_stay m rs (others_are k rs o),
       prefix_stays m rs (others_are k rs o),
+      tables_stay m rs (others_are k rs o),
       ap (λ t. slice_get t.functions k) (all-append m rs ((k, form) ∷ ts))
           ∙ all_kept (one_made n (k, form)) ts k (Some (function_made n form).function) o' (one_there n (k, form) is (within n.functions k x here)),
     )
@@ -223,6 +224,8 @@ pub record Linked (m : Making) (s : Promising) (name : List ℕ) (form : Form) (
   pub maker : Making
   pub knows : maker.names ≡ s.made.names
   pub prefix : maker.prefix ≡ m.prefix
+  pub tabled : Tabled s.made maker
+  pub of_tables : AreOfTables s.promises
   pub function : slice_get (all_made s.made s.promises).functions k ≡ Some (Some (function_made maker form).function)
 
 -- a row that declares a name that no row before it declares has its function under that name's number
@@ -251,6 +254,8 @@ row_linked m before form after name rest a b is row new =
       maker = f.0;
       knows = f.1;
       prefix = f.2 ∙ g2.prefix ∙ g1.prefix;
-      function = ap (λ ps. slice_get (all_made s.made ps).functions k) all ∙ f.3;
+      tabled = f.3;
+      of_tables = subst AreOfTables (sym all) (are-append rs ((k, form) ∷ ts) (between_are (length m.functions) k rs g1.promises.2) (is, between_are (length (sb.made.functions ++ None ∷ [])) (length s.made.functions) ts g2.promises.2));
+      function = ap (λ ps. slice_get (all_made s.made ps).functions k) all ∙ f.4;
     } in
     subst (λ t. Linked m t (name ++ rest) form k) (sym (over-append module_row s0 before (form ∷ after) ∙ ap (λ t. over module_row t after) row)) linked

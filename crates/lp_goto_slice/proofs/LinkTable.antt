@@ -28,7 +28,7 @@ use Rattle.lp_run.specs.Functions.{all_made, actions_made}
 use Rattle.lp_run.specs.Promised.{with_action_table, with_eof_table, Promising, promising_of, promised, beginning, module_row, module_rows, declared_row, lookup_name, trial_name, header_number, is_lookup, is_trial, is_reduction, is_ascent}
 use Rattle.lp_goto_slice.proofs.Whole.{IsWhole, AreWhole, flat, parts_over, flat-append, whole-append}
 use Rattle.lp_goto_slice.proofs.LinkMaps.{numbered_other, told_apart}
-use Rattle.lp_goto_slice.proofs.LinkGrows.{either, Tabled, tabled_same, tabled_both}
+use Rattle.lp_goto_slice.proofs.LinkGrows.{either, is_of_tables, Tabled, tabled_same, tabled_both}
 use Rattle.lp_goto_slice.proofs.LinkPromises.{AreNoAscent, AreOfTables, promised_are, tables_stay, terminals_quiet}
 use Rattle.lp_goto_slice.proofs.LinkModule.{IsDriven, Declares, complete, begun_tabled, source_tabled, actions_tabled}
 
@@ -289,6 +289,21 @@ module _ (g : Grammar) (states : List Lr1State) (s : Start) where
     where
       other : (m : Making) → number_in (codes "goto") (first_numbered (codes "action") (length m.functions) m.names) ≡ number_in (codes "goto") m.names
       other m = numbered_other (codes "goto") (codes "action") (length m.functions) m.names (told_apart (codes "goto") (codes "action") refl)
+
+  -- the row that declares the look-up of actions
+  pub action_declared : Declares (over part.TableItems [] (table_items g states s)) (codes "action") [] (action_lookup g states)
+  unfolding opened
+  action_declared = record {
+    before = symbol_values g ∷ action_table g states ∷ [];
+    after = end_table g states ∷ goto_function g states ∷ rows_after;
+    rows = item_rows;
+    plain_before = (refl, (refl, tt));
+    plain_after = (refl, (refl, after_plain));
+    is_plain = lookup_is (λ f. is_of_tables f ≡ true) (λ t n. refl) (λ t n. refl);
+    declares = λ t. lookup_is (λ f. module_row t f ≡ promised (codes "action") [] t f) (λ a b. refl) (λ a b. refl);
+    new = λ m h. h;
+    no_action = λ rest. told_apart (codes "action") (codes "super::action" ++ rest) refl;
+  }
 
   header_whole : IsWhole (parse_header g s)
   unfolding parse_header header_lines
