@@ -1,21 +1,25 @@
 -- A program that runs the built module: its methods, and the first answers of a run.
-use Rattle.std.proofs.Common.{◌≡◌, ℕ, ◌≤◌, ◌-◌, ℤ, pos, Bool, false, if◌then◌else◌, List, [], ◌∷◌, ◌++◌, length, map, Option, Some, None, refl, sym, ap, ◌∙◌, subst, arith}
-use Rattle.std.specs.Prelude.{slice_get}
+use Rattle.std.proofs.Common.{◌≡◌, ℕ, ◌+◌, ◌*◌, ◌<◌, ◌≤◌, ◌^◌, ◌-◌, ℤ, pos, Bool, true, false, if◌then◌else◌, List, [], ◌∷◌, ◌++◌, length, map, Option, Some, None, refl, sym, ap, ◌∙◌, subst, arith}
+use Rattle.std.specs.Prelude.{slice_get, codes, decimal, ◌==◌}
+use Rattle.std.proofs.lemmas.Bool.Decides.{nat_tests}
 use Rattle.std.specs.Option.{option_map, option_and_then}
-use Rattle.std.proofs.lemmas.Option.{slice_get-map}
+use Rattle.std.proofs.lemmas.Option.{slice_get-map, slice_get_within}
 use Rattle.lp_repr.specs.Numbering.{productions_of, terminals_of}
 use Rattle.lp_parts.specs.Entries.{action_entries, end_entries}
 use Rattle.lp_bodies.specs.Tables.{printed_table}
-use Rattle.lp_table.specs.TableLines.{action_table, end_table}
+use Rattle.lp_table.specs.TableLines.{action_lookup, action_table, end_table}
 use Rattle.lp_repr.specs.declared.lr1.Lr1State.{Lr1State}
 use Rattle.lp_repr.specs.declared.repr.Grammar.{Grammar}
 use Rattle.lp_repr.specs.declared.values.Loc.TheVariants.{Default}
-use Rattle.lp_driver.specs.Questions.{Start_location, Start_state, Uses_recovery, Eof_action, Said}
+use Rattle.lp_driver.specs.Questions.{Start_location, Start_state, Uses_recovery, Action, Eof_action, Said}
 use Rattle.lp_core.specs.declared.expr.Function.{Function}
 use Rattle.lp_core.specs.declared.expr.Table.{Table}
 use Rattle.lp_core.specs.declared.expr.Leaf.TheVariants as leaf
 use Rattle.lp_core.specs.declared.value.StateType.{StateType}
-use Rattle.lp_core.specs.Numbers.{number, fitting, typed}
+use Rattle.lp_core.specs.Numbers.{number, index, fitting, typed}
+use Rattle.lp_core.specs.OpMeaning.{entry as entry_at}
+use Rattle.lp_core.specs.Store.{Program}
+use Rattle.lp_ends.specs.Ends.{Moment, Enter, Giving, EndsIn}
 use Rattle.lp_core.specs.Reading.{state_of}
 use Rattle.lp_core.specs.Tree as tree
 use Rattle.lp_core.specs.Val.{Val}
@@ -27,7 +31,11 @@ use Rattle.lp_build.specs.Built.{text_rows}
 use Rattle.lp_build.specs.Built as built
 use Rattle.lp_view.specs.PartLists.{Form, hole_of, is_a, parts_of, over}
 use Rattle.lp_maker.specs.declared.methods.Methods.{Methods}
-use Rattle.lp_maker.specs.Constructs.{state, stuck}
+use Rattle.lp_maker.specs.Constructs.{called, state, stuck}
+use Rattle.lp_maker.specs.Numbers.{number_of}
+use Rattle.lp_bodies.specs.Actions.{takes}
+use Rattle.lp_run.specs.Functions.{function_made}
+use Rattle.lp_goto_slice.proofs.Digits.{number_of_decimal}
 use Rattle.lp_maker.specs.Making.{Making, Entries, entries_of}
 use Rattle.lp_maker.specs.Texts.{state_type_of}
 use Rattle.lp_bodies.specs.MachineMethods.{Recovering, recovery_row, recovery_rows, with_methods, methods_of, after_expected}
@@ -45,20 +53,20 @@ use Rattle.lp_turns.specs.DriverCall.{program_answers, or_stuck, asks, state_val
 use Rattle.lp_run.specs.Entered.{module_made}
 use Rattle.lp_run.specs.ParseMethod.{By_driver}
 use Rattle.lp_goto_slice.proofs.GotoAnswered.{built_items}
-use Rattle.lp_goto_slice.proofs.LinkModule.{complete, ModuleMade, module_is_made}
-use Rattle.lp_goto_slice.proofs.LinkTable.{items_driven, machine_is, machine_typed, tables_made}
+use Rattle.lp_goto_slice.proofs.LinkModule.{complete, ModuleMade, RowMade, module_is_made, row_made, row_function}
+use Rattle.lp_goto_slice.proofs.LinkTable.{action_declared, items_driven, machine_is, machine_typed, tables_made}
 use Rattle.lp_goto_slice.proofs.StateTypes.{numbers_of}
 use Rattle.lp_goto_slice.proofs.Whole.{AreWhole, flat, parts_over}
 use Rattle.lp_alike.specs.Answered.{entry}
 use Rattle.lp_asked.specs.Runners.{Asks, asking_over, Replies}
 use Rattle.lp_asked.proofs.Asked.{asks_replies}
 use Rattle.lp_machine.specs.Lookup.{act_at}
-use Rattle.lp_repr.specs.declared.lr1.Token.TheVariants.{Eof}
+use Rattle.lp_repr.specs.declared.lr1.Token.TheVariants.{Terminal, Eof}
 use Rattle.lp_goto_slice.proofs.GotoCode.{IsState}
 use Rattle.lp_answers.proofs.Begins.{location_replies, state_replies, recovery_replies}
-use Rattle.lp_answers.proofs.Entries.{end_at}
-use Rattle.lp_answers.proofs.Looks.{entry_code, entry_found, looked_up}
-use Rattle.lp_answers.proofs.Methods.{eof_method, error_kept, location_method, state_method, recovery_method, method_there}
+use Rattle.lp_answers.proofs.Entries.{action_at, end_at}
+use Rattle.lp_answers.proofs.Looks.{entry_code, entry_found, looked_up, one_row, many_row, look_code, one_looked, many_looked, handed_on}
+use Rattle.lp_answers.proofs.Methods.{action_method, eof_method, error_kept, location_method, state_method, recovery_method, method_there}
 
 -- a program has the functions of the built module, and is asked by its methods
 pub record RunsBuilt (prefix : List ℕ) (program : Form) (g : Grammar) (states : List Lr1State) (st : Start) (asked : Asking) (methods : Methods) : Type 0 where
@@ -132,6 +140,42 @@ module _ {prefix : List ℕ} {program : Form} {g : Grammar} {states : List Lr1St
       let is = is_made runs in
       method_runs runs (λ m. m.eof_action) _ (eof_method form is.names (length is.fields) all)
       ∙ ap (λ (n : ℕ). Some (entry_code n)) (error_kept form is.names (length is.fields) all ∙ (tables_made g states st prefix program).eof_table)
+
+-- the look-up of actions, by the number of terminals
+abbrev pub row_by : Bool → ℕ → Tree
+row_by one n = if one then one_row else many_row (number_of (decimal n))
+
+lookup_by : (m : Making) (text : List ℕ) (n : ℕ) (b : Bool) → (function_made m (if b then form_leaf part.ActionLookupOne (text ∷ []) else form_leaf part.ActionLookup (text ∷ decimal n ∷ []))).function ≡ look_code m.action_table (row_by b n)
+unfolding function_made
+lookup_by m text n true = refl
+lookup_by m text n false = refl
+
+lookup_is : (m : Making) (g : Grammar) (states : List Lr1State) → (function_made m (action_lookup g states)).function ≡ look_code m.action_table (row_by (length (terminals_of g) == 1) (length (terminals_of g)))
+unfolding action_lookup
+lookup_is m g states = lookup_by m (state_text g states) (length (terminals_of g)) (length (terminals_of g) == 1)
+
+-- a program has the look-up, and its method hands on to it
+pub record HasLookup (g : Grammar) (asked : Asking) (methods : Methods) : Type 0 where
+  pub number : ℕ
+  pub there : slice_get asked.program.functions number ≡ Some (look_code 0 (row_by (length (terminals_of g) == 1) (length (terminals_of g))))
+  pub method : slice_get asked.program.functions methods.action ≡ Some (function 2 0 (called (takes 2) (Some number)))
+
+module _ {prefix : List ℕ} {program : Form} {g : Grammar} {states : List Lr1State} {st : Start} {asked : Asking} {methods : Methods} (runs : RunsBuilt prefix program g states st asked methods) where
+  pub has_lookup : HasLookup g asked methods
+  has_lookup =
+      let items = built_items g states st in
+      let all = complete prefix program items in
+      let form = (items_driven g states st).machine in
+      let is = is_made runs in
+      let r : RowMade prefix all (codes "action") (action_lookup g states) = row_made prefix program items (action_lookup g states) (codes "action") [] (action_declared g states st) in
+      record {
+        number = r.number;
+        there = ap (λ (fs : List Function). slice_get fs r.number) runs.functions
+            ∙ row_function prefix (module_made prefix program items) all form (action_lookup g states) (codes "action") is r
+            ∙ ap Some (lookup_is r.maker g states)
+            ∙ ap (λ (n : ℕ). Some (look_code n (row_by (length (terminals_of g) == 1) (length (terminals_of g))))) (r.action_table ∙ (tables_made g states st prefix program).action_table);
+        method = method_runs runs (λ m. m.action) _ (action_method form is.names (length is.fields) all r.number r.named);
+      }
 
 -- ---- whether errors are mended
 -- rows of fields change nothing
@@ -209,3 +253,36 @@ module _ {prefix : List ℕ} {program : Form} {g : Grammar} {states : List Lr1St
         subst (λ (o : Option Val). Replies asked methods closure d most (λ x. x ≡ e) (said o)) (sym value)
         (asks_replies asked methods closure state_of d.methods.eof_action (number kind (pos q) ∷ []) d most (λ x. x ≡ e) 1 (number kind e) (asking_over [] d) e h
         (looked_up p d.methods.eof_action 1 q kind (asking_over [] d) (number kind e) (there (λ m. m.eof_action) _ (end_runs runs)) found) refl refl refl few)
+
+    -- one look-up, for one terminal and for more
+    one_or_more : (p : Program) (f q i n : ℕ) (kind : StateType) (m : Moment) (v : Val) (b : Bool) → (n == 1) ≡ b → i < n → n < 2 ^ 64 → q * n + i < 2 ^ 64 → slice_get p.functions f ≡ Some (look_code 0 (row_by b n)) → entry_at p 0 (index (q * n + i)) ≡ Some v
+        → EndsIn p (Enter f (number kind (pos q) ∷ index i ∷ [])) m 1 (Giving v m)
+    one_or_more p f q i n kind m v true is lt few small there found =
+        let one : n ≡ 1 = grind (arith, nat_tests) in
+        let same : q * n + i ≡ q + i = ap (λ (k : ℕ). q * k + i) one ∙ (omega arith) in
+        one_looked p f 0 q i kind m v there (omega (arith, same)) (ap (λ (k : ℕ). entry_at p 0 (index k)) (sym same) ∙ found)
+    one_or_more p f q i n kind m v false is lt few small there found =
+        many_looked p f 0 q i kind m v n (there ∙ ap (λ (o : Option ℕ). Some (look_code 0 (many_row o))) (number_of_decimal n few)) small found
+
+    -- the entry of a state on a terminal, where the state type holds it
+    pub action_answered : 2 ≤ most → (kind : StateType) → state_type_of (state_text g states) ≡ Some kind → (q i : ℕ) (s : Lr1State) → slice_get states q ≡ Some s → i < length (terminals_of g) → length (terminals_of g) < 2 ^ 64
+        → length (action_entries (length (terminals_of g)) states) < 2 ^ 64 → IsState kind q → fitting kind (entry (act_at states q (Terminal i))) ≡ Some (entry (act_at states q (Terminal i)))
+        → Replies asked methods closure d most (λ x. x ≡ entry (act_at states q (Terminal i))) (program_answers (Action (pos q) i) d)
+    action_answered enough kind is q i s at lt some counted small fits =
+        let e = entry (act_at states q (Terminal i)) in
+        let n = length (terminals_of g) in
+        let table = actions_there runs in
+        let look = has_lookup runs in
+        let p = d.asked.program in
+        let place = action_at states n q i s at lt in
+        let within : q * n + i < length (action_entries n states) = slice_get_within (action_entries n states) (q * n + i) e place in
+        let same : slice_get p.tables 0 ≡ Some table.table = ap (λ (a : Asking). slice_get a.program.tables 0) h.program ∙ table.there in
+        let found = entry_found p 0 (q * n + i) table.table kind e same (table.typed_so ∙ is) (ap (λ (l : List ℤ). slice_get l (q * n + i)) table.holds ∙ place) fits in
+        let typed_is : d.methods.state_type ≡ Some kind = ap (λ (m : Methods). m.state_type) (h.by ∙ sym (same_methods runs)) ∙ ap state_type_of (machine_typed g states st) ∙ is in
+        let said : Option Val → Said ℤ Runner = λ (o : Option Val). or_stuck o d (λ v. asks state_of d.methods.action (v ∷ index i ∷ []) d) in
+        let value : state_value d (pos q) ≡ Some (number kind (pos q)) = ap (λ (o : Option StateType). option_and_then (λ (k : StateType). typed k (pos q)) o) typed_is ∙ ap (option_map (number kind)) small.fits in
+        let code : slice_get p.functions look.number ≡ Some (look_code 0 (row_by (n == 1) n)) = ap (λ (a : Asking). slice_get a.program.functions look.number) h.program ∙ look.there in
+        subst (λ (o : Option Val). Replies asked methods closure d most (λ x. x ≡ e) (said o)) (sym value)
+        (asks_replies asked methods closure state_of d.methods.action (number kind (pos q) ∷ index i ∷ []) d most (λ x. x ≡ e) 2 (number kind e) (asking_over [] d) e h
+        (handed_on p d.methods.action look.number 1 (number kind (pos q)) (index i) (number kind e) (asking_over [] d) (there (λ m. m.action) _ look.method) refl refl
+        (λ m. one_or_more p look.number q i n kind m (number kind e) (n == 1) refl lt some (omega arith) code found)) refl refl refl enough)
