@@ -7,5 +7,3 @@ mod ascent;
 mod readings;
 #[cfg(test)]
 mod row_one;
-#[cfg(test)]
-mod views;

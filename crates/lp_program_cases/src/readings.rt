@@ -2,19 +2,12 @@
 
 use crate::ascent::ASCENT;
 use crate::row_one::ROW_ONE;
-use lp_form_view::{ActionView, FormView, view};
-use lp_program::build::{
-    ActionBody, FunctionName, Triples, action_fn, header, program, standard_uses, to_triple,
-};
 use lp_program::count::{form_count, form_number, node_count};
-use lp_program::piece::Piece;
 use lp_program::print::print_program;
 use lp_program::read::{ReadFault, read_program};
-use lp_program::tree::{Node, Program};
-use lp_program::view::root;
+use lp_program::tree::Program;
 use lp_write::{MemorySink, Options, RustWrite};
 use std::alloc::Global;
-use std::borrow::CowStr;
 use std::process::Abort;
 use std::test::Fail;
 
@@ -90,6 +83,8 @@ fn printed_text_is_read_back(rt: HostRuntime) -> Result<(), Fail> {
 #[test]
 fn forms_in_preorder(rt: HostRuntime) -> Result<(), Fail> {
     let program = read_program(rt.alloc(), ROW_ONE).ok().ok_or("no program")?;
+    assert_eq!(rt; form_count(&program), 45);
+    assert_eq!(rt; node_count(&program), 91);
     assert_eq!(rt; form_number(&program, 0), Some(1));
     assert_eq!(rt; form_number(&program, 1), Some(4));
     assert_eq!(rt; form_number(&program, form_count(&program)), None);
@@ -159,64 +154,5 @@ fn blanks_and_comments_do_not_count(rt: HostRuntime) -> Result<(), Fail> {
     let other = disturbed(alloc, ROW_ONE)?;
     let again = read_lines(alloc, other.as_str())?;
     assert!(rt; again.as_str() == plain.as_str(), "other lines");
-    Ok(())
-}
-
-fn text(text: &'static str) -> Piece<'static> {
-    Piece::new(CowStr::Borrowed(text))
-}
-
-fn action(alloc: Global, number: u64, code: &'static str) -> Result<Node<'static>, Fail> {
-    let parameters = vec![in alloc; text("(_, a, _): (usize, Tok, usize)")]?;
-    let name = FunctionName::Action(number);
-    let none = Vec::new(alloc);
-    let head = header(alloc, name, none, parameters, text("()"), Vec::new(alloc))?;
-    let body = ActionBody::User { code: text(code) };
-    Ok(action_fn(alloc, false, body, vec![in alloc; head]?)?)
-}
-
-fn two_actions(alloc: Global) -> Result<Program<'static>, Fail> {
-    let mut below = Vec::new(alloc);
-    below.push(standard_uses(alloc)?)?;
-    below.push(action(alloc, 0, "\"}\" /* { */")?)?;
-    below.push(action(alloc, 1, "x // (")?)?;
-    let plain = Triples::Plain {
-        token: text("Tok"),
-        error: text("()"),
-    };
-    let triple = text("(),Tok,()");
-    let error = text("(), Tok, ()");
-    below.push(to_triple(alloc, text(""), text(""), None, triple, error, plain)?)?;
-    Ok(program(alloc, text("__"), below)?)
-}
-
-/// The codes of a program's actions, one after another.
-fn codes(alloc: Global, program: &Program<'_>) -> Result<String, Fail> {
-    let mut all = String::new(alloc);
-    for form in root(program).below() {
-        if let FormView::ActionFn {
-            body: ActionView::User { code },
-            ..
-        } = view(form)
-        {
-            all.push_str(code.trim_start())?;
-            all.push_str(";")?;
-        }
-    }
-    Ok(all)
-}
-
-#[test]
-fn codes_are_read_unchanged(rt: HostRuntime) -> Result<(), Fail> {
-    let alloc = rt.alloc();
-    let tree = two_actions(alloc)?;
-    for (comments, whitespace) in [(false, false), (false, true), (true, false), (true, true)] {
-        let shown = printed(alloc, &tree, comments, whitespace)?;
-        let again = read_program(alloc, shown.as_str())
-            .ok()
-            .ok_or("not read back")?;
-        let found = codes(alloc, &again)?;
-        assert!(rt; found.as_str() == "\"}\" /* { */;x // (;", "other code");
-    }
     Ok(())
 }
