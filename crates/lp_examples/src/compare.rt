@@ -31,12 +31,17 @@ pub fn compared(
         return format!(in alloc; "{name}: as stored");
     }
     let end = answer.end.as_str();
-    let same = output
-        .bytes()
-        .zip(stored.bytes())
-        .take_while(|(o, s)| o == s)
-        .count();
+    let same = common(output.as_bytes(), stored.as_bytes());
     format!(in alloc; "{name}: {end}, differs from byte {same} on")
+}
+
+/// How many bytes two texts begin with in common.
+fn common(output: &[u8], stored: &[u8]) -> usize {
+    output
+        .iter()
+        .zip(stored)
+        .take_while(|(o, s)| o == s)
+        .count()
 }
 
 /// Whether an answer is what is wanted.
