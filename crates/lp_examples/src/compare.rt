@@ -80,5 +80,8 @@ fn stands_in_text(alloc: Global, case: &Case<'_>, output: &str) -> Result<bool, 
 
 /// A text up to its first comma.
 fn first_word(text: &str) -> &str {
-    text.split_once(',').map_or(text, |(word, _)| word)
+    match text.split_once(',') {
+        Some((word, _)) => word,
+        None => text,
+    }
 }
