@@ -1,0 +1,7 @@
+pub mod Bounds
+pub mod Counted
+pub mod Places
+pub mod Looked
+pub mod Reduced
+pub mod Turns
+pub mod Runs

@@ -1,0 +1,4 @@
+pub mod Methods
+pub mod Built
+pub mod Begins
+pub mod Entries
