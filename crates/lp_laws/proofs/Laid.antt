@@ -1,7 +1,5 @@
 -- The passages of trees, of some of them, and of a step itself.
-use Rattle.std.proofs.Common.{◌≡◌, ℕ, zero, suc, ◌+◌, ◌==◌, Bool, true, false, not, ◌&&◌, List, [], ◌∷◌, ◌++◌, length, map, take, drop, replicate, refl, sym, ap, ◌∙◌, subst, arith}
-use Rattle.std.specs.List.{flat_map}
-use Rattle.std.proofs.lemmas.Bool.{both_ways}
+use Rattle.std.proofs.Common.{◌≡◌, ℕ, zero, suc, Bool, true, false, not, ◌&&◌, List, [], ◌∷◌, ◌++◌, length, take, drop, replicate, refl, sym, ap, subst, arith}
 use Rattle.lp_form.specs.Templates.{Piece, steps_of}
 use Rattle.lp_form.specs.Templates as template
 use Rattle.lp_form.specs.declared.part.Part.{Part}
@@ -9,11 +7,11 @@ use Rattle.lp_form.specs.declared.part.Part.TheVariants as part
 use Rattle.lp_form.specs.declared.template.Step.{Step}
 use Rattle.lp_form.specs.declared.template.Step.TheVariants as step
 use Rattle.lp_spelling.specs.Lines.{line_of}
-use Rattle.lp_program.specs.Reads.{TakesLine, TakesLines, TakesOwn, graft, parts_in}
+use Rattle.lp_program.specs.Reads.{TakesLines, TakesOwn, graft, parts_in}
 use Rattle.lp_program.specs.Trees.{Content, Forest, tree_count}
 use Rattle.lp_program.specs.Trees.Forest.{bare, tree}
 use Rattle.lp_laws.specs.TemplateTests.{has_class}
-use Rattle.lp_laws.specs.Laid.{Passage, a_line, AllStand, own_passages, Laid, laid_parts, all_passages, step_passages, passages}
+use Rattle.lp_laws.specs.Laid.{Passage, a_line, AllStand, own_passages, Laid, laid_parts, step_passages, passages}
 use Rattle.lp_laws.proofs.Forests.{front, behind}
 
 -- passages behind others

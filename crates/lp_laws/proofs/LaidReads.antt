@@ -1,5 +1,5 @@
 -- A text reads as a program exactly where it is its passages.
-use Rattle.std.proofs.Common.{◌≡◌, ℕ, zero, suc, ◌+◌, ◌==◌, Bool, true, false, not, ◌&&◌, List, [], ◌∷◌, ◌++◌, length, take, drop, refl, sym, ap, ◌∙◌, subst, arith, inl, inr, append-nil, take_at, drop_at}
+use Rattle.std.proofs.Common.{◌≡◌, ℕ, ◌+◌, true, false, List, [], ◌∷◌, ◌++◌, length, take, drop, refl, sym, ap, ◌∙◌, subst, arith, inl, inr, take_at, drop_at}
 use Rattle.std.specs.List.{list_all}
 use Rattle.std.proofs.lemmas.Bool.{and_parts, and_from, not-true, both_ways, cases_Bool}
 use Rattle.lp_form.specs.Templates.{steps_of}
@@ -18,7 +18,7 @@ use Rattle.lp_laws.specs.TemplateTests.{is_class, has_class}
 use Rattle.lp_laws.specs.WellFormed.{taken_in, is_shared}
 use Rattle.lp_laws.specs.Laid.{Passage, AllStand, own_passages, Laid, laid_parts, all_passages, step_passages, passages, IsShapedPart, IsShaped, IsLaidOut}
 use Rattle.lp_laws.proofs.Apart.{templates_apart}
-use Rattle.lp_laws.proofs.Forests.{front, behind, graft_split, count_split, parts_front, parts_behind, no_trees, Every, every_front, every_behind, length-parts}
+use Rattle.lp_laws.proofs.Forests.{front, behind, graft_split, count_split, no_trees, Every, every_front, every_behind}
 use Rattle.lp_laws.proofs.Laid.{stand_join, stand_split, laid_graft, parts_laid, laid_length, laid_front, laid_behind, is_each, each_step, each_last, templates_each, own_stand, own_taken}
 use Rattle.lp_laws.proofs.Sharing.{belonging, takes_none, are_apart, fit, joined, class_steps, later_apart, takes_chunk, none_of, class_first, no_class_first, shared_by}
 use Rattle.lp_laws.proofs.Steps.{no_class_none}

@@ -1,5 +1,5 @@
 -- What a refusal tells, from what the reader says of it.
-use Rattle.std.proofs.Common.{◌≡◌, ℕ, List, Result, Ok, Err, IfOk, IfErr}
+use Rattle.std.proofs.Common.{ℕ, List, Result, Ok, Err, IfOk, IfErr}
 use Rattle.std.specs.Str.{IsUtf8}
 use Rattle.lp_program.specs.Choosing.{IsChosen, IsProgramOf, IsRefused}
 use Rattle.lp_program.specs.Reads.{ReadsAs}
