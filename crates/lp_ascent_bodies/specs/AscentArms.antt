@@ -1,5 +1,5 @@
 -- The arms of a state function's match on the lookahead: shifts and reductions.
-use Rattle.std.specs.Prelude.{ℕ, ◌||◌, Bool, List, [], ◌∷◌, ◌++◌, length, codes, Option, Some, None, slice_get, if◌then◌else◌}
+use Rattle.std.specs.Prelude.{ℕ, ◌+◌, ◌||◌, Bool, List, [], ◌∷◌, ◌++◌, length, codes, Option, Some, None, slice_get, if◌then◌else◌}
 use Rattle.lp_ascent_bodies.specs.declared.ascent.Lines.{Lines as Shared}
 use Rattle.lp_core.specs.declared.expr.Case.{Case}
 use Rattle.lp_core.specs.declared.expr.Join.TheVariants as join
@@ -17,7 +17,6 @@ use Rattle.lp_maker.specs.Constructs.{stuck, read, joined, one_after_another}
 use Rattle.lp_maker.specs.Making.{Making, with_text}
 use Rattle.lp_bodies.specs.Arms.{Gathered, with_case, with_body}
 use Rattle.lp_bodies.specs.Lines.{Lines, lines_of, with_part, with_let}
-use Rattle.lp_bodies.specs.MachineMethods.{slot_at}
 use Rattle.lp_bodies.specs.Reductions.{Done, done_of}
 use Rattle.lp_bodies.specs.Tables.{Reading, reading_of, captured}
 use Rattle.lp_ascent_bodies.specs.AscentReductions.{ascent_reduce}
@@ -64,7 +63,7 @@ shift_value prefix token line =
 -- `(~loc1, .., ~loc2)`, where the lookahead's parts stand in three slots from this one on
 abbrev pub shifted : List ℕ → ℕ → Form → Tree
 shifted prefix start line =
-    joined (join.Make tag.Tuple) (read start ∷ shift_value prefix (slot_at start 1) line ∷ read (slot_at start 2) ∷ [])
+    joined (join.Make tag.Tuple) (read start ∷ shift_value prefix (start + 1) line ∷ read (start + 2) ∷ [])
 
 -- puts the lookahead's parts into three slots
 abbrev pub token_parts : Shared → Lines → Lines

@@ -10,7 +10,7 @@ use Rattle.lp_view.specs.PartLists.{Form, is_a, parts_of, over}
 use Rattle.lp_maker.specs.Slots.{Names, after_slots, bound, cut_to}
 use Rattle.lp_maker.specs.Constructs.{stuck, read, take_slot, write, joined, call_function, one_after_another, give_back, on_option}
 use Rattle.lp_maker.specs.Making.{Making, with_function, read_name, call_named}
-use Rattle.lp_bodies.specs.Reductions.{Done, done_of, next_slot, part_function, states}
+use Rattle.lp_bodies.specs.Reductions.{Done, done_of, part_function, states}
 use Rattle.lp_bodies.specs.Source.{function, default_location}
 use Rattle.lp_ascent_bodies.specs.AscentReductions.{top_slot}
 
@@ -26,7 +26,7 @@ other_slots (suc n) = other_slots n ++ read (n + 1) ∷ []
 
 -- the function of a cell and so many others: the cell's end, else what the next function answers
 abbrev pub link_function : ℕ → ℕ → ℕ → Function
-link_function end next others = function (next_slot others) 0 (end_or end next (read 0) (read 0) (other_slots others))
+link_function end next others = function (others + 1) 0 (end_or end next (read 0) (read 0) (other_slots others))
 
 -- the number of the last function of a chain, and what was made
 pub record Chaining : Type 0 where

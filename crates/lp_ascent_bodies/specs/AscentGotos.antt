@@ -1,5 +1,5 @@
 -- What a state function does with a symbol that was made.
-use Rattle.std.specs.Prelude.{ℕ, List, [], ◌∷◌, ◌++◌, length, codes, slice_get, if◌then◌else◌}
+use Rattle.std.specs.Prelude.{ℕ, ◌+◌, List, [], ◌∷◌, ◌++◌, length, codes, slice_get, if◌then◌else◌}
 use Rattle.lp_ascent_bodies.specs.declared.ascent.Lines.{Lines as Shared}
 use Rattle.lp_ascent_bodies.specs.declared.ascent_goto.GotoLines.{GotoLines}
 use Rattle.lp_core.specs.declared.expr.Join.TheVariants as join
@@ -16,7 +16,7 @@ use Rattle.lp_maker.specs.Making.{Making, with_variant, variant_tag}
 use Rattle.lp_bodies.specs.Arms.{Gathered, gathered, no_arms, with_case}
 use Rattle.lp_bodies.specs.Tables.{Reading, reading_of, choice_at}
 use Rattle.lp_bodies.specs.Lines.{Lines, lines_of, with_let}
-use Rattle.lp_bodies.specs.Reductions.{Done, done_of, next_slot}
+use Rattle.lp_bodies.specs.Reductions.{Done, done_of}
 use Rattle.lp_ascent_bodies.specs.AscentReductions.{top_slot, give_made}
 use Rattle.lp_ascent_bodies.specs.AscentMoves.{found_transition}
 use Rattle.lp_ascent_bodies.specs.AscentArms.{Arming, arming_of, block_arm}
@@ -84,4 +84,4 @@ goto_done shared mark token made g =
 -- goes on with what a state function gave, turn by turn
 abbrev pub goto_loop : Shared → Making → Names → Form → Done
 goto_loop shared m names form =
-    goto_done shared (length names.known) names.next (next_slot names.next) (going_rows shared names.next (next_slot names.next) form (no_gotos (after_slots 2 names) m))
+    goto_done shared (length names.known) names.next (names.next + 1) (going_rows shared names.next (names.next + 1) form (no_gotos (after_slots 2 names) m))

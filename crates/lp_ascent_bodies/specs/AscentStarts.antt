@@ -1,5 +1,5 @@
 -- The next token, and the `parse` method of recursive ascent.
-use Rattle.std.specs.Prelude.{ℕ, [], ◌∷◌, ◌++◌, codes, Option, Some, None}
+use Rattle.std.specs.Prelude.{ℕ, ◌+◌, [], ◌∷◌, ◌++◌, codes, Option, Some, None}
 use Rattle.lp_core.specs.declared.expr.Leaf.TheVariants as leaf
 use Rattle.lp_core.specs.declared.expr.Op.TheVariants as op
 use Rattle.lp_core.specs.declared.expr.Test.TheVariants as test
@@ -11,7 +11,7 @@ use Rattle.lp_maker.specs.Slots.{Names, after_slots, bound}
 use Rattle.lp_maker.specs.Constructs.{stuck, read, take_slot, call_function, one_after_another, give_back, here, on_option, on_result, opened, tried, absent}
 use Rattle.lp_maker.specs.Making.{Making, with_variant, variant_tag, read_all, call_named}
 use Rattle.lp_bodies.specs.Lines.{Lines, lines_of, with_let}
-use Rattle.lp_bodies.specs.Reductions.{Done, done_of, next_slot}
+use Rattle.lp_bodies.specs.Reductions.{Done, done_of}
 
 abbrev pub source_triple : Option ℕ → ℕ → Tree
 source_triple None item = take_slot item
@@ -29,10 +29,10 @@ item_value closure item token =
 -- `match ~tokens.next() { .. }`: the next token, where an error of the token source is returned
 abbrev pub next_token : Making → Names → Tree
 next_token m names =
-    on_option (Plain leaf.NextItem) names.next absent (item_value m.item_closure names.next (after_slots 1 names).next)
+    on_option (Plain leaf.NextItem) names.next absent (item_value m.item_closure names.next (names.next + 1))
 
 abbrev pub after_token : Names → Names
-after_token names = after_slots 1 (after_slots 1 names)
+after_token names = after_slots 2 names
 
 -- `let ~lookahead = ..;`
 abbrev pub token_line : Making → Lines → Lines
@@ -65,7 +65,7 @@ start_value variant made =
 -- answers by what is left and what was made: a token that is left is an error
 abbrev pub started : Tag → ℕ → Tree → Tree
 started variant left answer =
-    one_after_another (Apply (op.Parts left 2) answer ∷ on_option (take_slot left) left (start_value variant (next_slot left)) (Apply (op.Wrap tag.Failure) (Apply op.ExtraToken (take_slot left))) ∷ [])
+    one_after_another (Apply (op.Parts left 2) answer ∷ on_option (take_slot left) left (start_value variant (left + 1)) (Apply (op.Wrap tag.Failure) (Apply op.ExtraToken (take_slot left))) ∷ [])
 
 abbrev pub start_answer : Making → Form → Names → ℕ → ℕ → Tree
 start_answer m form names lookahead list = tried names.next (first_call m form names lookahead list)

@@ -32,12 +32,12 @@ pub record Stating : Type 0 where
 abbrev pub stating_of : Names → StateParts → Making → Stating
 stating_of names state made = record { lines = lines_of names state.parts.items; shared = state.lines; arms = gathered state.arms; after = state.after; made = made }
 
-abbrev pub shared_of : Form → ℕ → Names → Shared
-shared_of header made names = record { lookahead = unwrap_or (slot_of (codes "~lookahead") names) (2 ^ 64 - 1); made = made; kind = vec_type header }
+abbrev pub shared_of : List ℕ → Form → ℕ → Names → Shared
+shared_of prefix header made names = record { lookahead = unwrap_or (slot_of (codes "~lookahead") names) (2 ^ 64 - 1); made = made; kind = vec_type prefix header }
 
 -- before the first line: `let mut ~result;`
 abbrev pub no_lines : Form → Names → Making → Stating
-no_lines header names made = record { lines = lines_of (bound (codes "~result") names) []; shared = shared_of header names.next (bound (codes "~result") names); arms = no_arms; after = None; made = made }
+no_lines header names made = record { lines = lines_of (bound (codes "~result") names) []; shared = shared_of made.prefix header names.next (bound (codes "~result") names); arms = no_arms; after = None; made = made }
 
 -- the next token is the lookahead
 abbrev pub token_row : Stating → Stating

@@ -1,6 +1,6 @@
 //! Recursive ascent: the `parse` method, and moves to other states.
 
-ghost use Rattle.std.specs.Prelude.{◌≡◌, IfOk, OnOk};
+ghost use Rattle.std.specs.Prelude.{◌≡◌, ◌+◌, ◌<◌, ◌^◌, IfOk, OnOk};
 ghost use Rattle.std.specs.Option.{option_map};
 ghost use Rattle.lp_view.specs.PartLists.{listed};
 ghost use Rattle.lp_maker.specs.Making.{making};
@@ -27,9 +27,8 @@ pub fn next_token<'p>(maker: &Maker<'p>, scope: &mut Scope) -> Result<Expr, Allo
     ensures value { IfOk result (λ v. v ≡ next_token (making maker.now) scope.old) }
     ensures names { OnOk result (scope.new ≡ after_token scope.old) }
 {
-    let item = scope.fresh();
-    let token = scope.fresh();
-    let inside = item_value(maker, item, token)?;
+    let item = scope.fresh_many(2)?;
+    let inside = item_value(maker, item, item + 1)?;
     maker.on_option(Expr::plain(Leaf::NextItem), item, maker.absent(), inside)
 }
 
@@ -135,7 +134,7 @@ fn start_end<'p>(
 ) -> Result<Expr, AllocError>
     ensures { IfOk result (λ v. done_of v scope.new (making maker.new) ≡ start_end (making maker.old) (listed form.entry) scope.old answer) }
 {
-    let left = scope.fresh_many(2);
+    let left = scope.fresh_many(2)?;
     let variant = maker.variant(form.hole(3))?;
     started(maker, variant, left, answer)
 }
@@ -165,12 +164,13 @@ fn started<'p>(
     left: usize,
     answer: Expr,
 ) -> Result<Expr, AllocError>
+    requires { left + 1 < 2 ^ 64 }
     ensures { IfOk result (λ v. v ≡ started variant left answer) }
 {
     let unpacked = maker.apply(Op::Parts(left, 2), answer)?;
     let error = maker.apply(Op::ExtraToken, Expr::take(left))?;
     let extra = maker.apply(Op::Wrap(Tag::Failure), error)?;
-    let value = start_value(maker, variant, left.saturating_add(1))?;
+    let value = start_value(maker, variant, left + 1)?;
     let choice = maker.on_option(Expr::take(left), left, value, extra)?;
     Ok(Expr::block(vec![in maker.alloc; unpacked, choice]?))
 }

@@ -1,6 +1,6 @@
 //! Recursive ascent: the arms of a state function's match on the lookahead.
 
-ghost use Rattle.std.specs.Prelude.{◌≡◌, IfOk, OnOk};
+ghost use Rattle.std.specs.Prelude.{◌≡◌, ◌+◌, ◌<◌, ◌^◌, IfOk, OnOk};
 ghost use Rattle.std.specs.Option.{option_map};
 ghost use Rattle.lp_view.specs.PartLists.{listed};
 ghost use Rattle.lp_maker.specs.Making.{making};
@@ -81,6 +81,7 @@ fn token_parts<'p>(
     parts: &mut Vec<Expr>,
 ) -> Result<usize, AllocError>
     ensures slot { IfOk result (λ slot. slot ≡ scope.old.next) }
+    ensures fits { IfOk result (λ slot. slot + 2 < 2 ^ 64) }
     ensures lines { OnOk result (lines_of scope.new parts.new.items ≡ token_parts lines (lines_of scope.old parts.old.items)) }
 {
     let triple = maker.apply(Op::Part(0), Expr::read(lines.lookahead))?;
@@ -91,10 +92,11 @@ fn token_parts<'p>(
 
 // `(~loc1, .., ~loc2)`.
 fn shifted<'p>(maker: &Maker<'p>, start: usize, line: Form<'p>) -> Result<Expr, AllocError>
+    requires { start + 2 < 2 ^ 64 }
     ensures { IfOk result (λ v. v ≡ shifted (making maker.now).prefix start (listed line.entry)) }
 {
-    let value = shift_value(maker, start.saturating_add(1), line)?;
-    let end = Expr::read(start.saturating_add(2));
+    let value = shift_value(maker, start + 1, line)?;
+    let end = Expr::read(start + 2);
     let triple = vec![in maker.alloc; Expr::read(start), value, end]?;
     Ok(Expr::join(Join::Make(Tag::Tuple), triple))
 }

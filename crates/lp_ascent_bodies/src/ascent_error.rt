@@ -1,6 +1,6 @@
 //! Recursive ascent: the errors of a state.
 
-ghost use Rattle.std.specs.Prelude.{◌≡◌, IfOk, OnOk};
+ghost use Rattle.std.specs.Prelude.{◌≡◌, ◌+◌, ◌<◌, ◌^◌, IfOk, OnOk};
 ghost use Rattle.std.specs.Option.{option_map};
 ghost use Rattle.lp_view.specs.PartLists.{listed};
 ghost use Rattle.lp_maker.specs.Making.{making};
@@ -43,7 +43,7 @@ fn error_value<'p>(
     let list = expected_list(maker, scope)?;
     let expected = scope.bind(maker.alloc, "~expected")?;
     let listed = maker.write(expected, list)?;
-    let token = scope.fresh();
+    let token = scope.fresh()?;
     let location = found_location(maker, scope, first(form))?;
     let back = unrecognized(maker, scope, token, expected, location)?;
     Ok(Expr::block(vec![in maker.alloc; listed, back]?))
@@ -186,11 +186,12 @@ fn link<'p>(
     next: usize,
     others: usize,
 ) -> Result<usize, AllocError>
+    requires { others + 1 < 2 ^ 64 }
     ensures { IfOk result (λ last. chaining_of last (making maker.new) ≡ link end others (chaining_of next (making maker.old))) }
 {
     let left = other_slots(maker, others)?;
     let body = end_or(maker, end, next, Expr::read(0), Expr::read(0), left)?;
-    maker.closure(function(others.saturating_add(1), 0, body))
+    maker.closure(function(others + 1, 0, body))
 }
 
 // The slots after the first, so many.

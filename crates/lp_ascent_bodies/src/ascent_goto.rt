@@ -41,8 +41,8 @@ pub fn goto_loop<'p>(
     ensures { IfOk result (λ v. done_of v scope.new (making maker.new) ≡ goto_loop lines (making maker.old) scope.old (listed form.entry)) }
 {
     let mark = scope.open();
-    let token = scope.fresh_many(2);
-    let made = token.saturating_add(1);
+    let token = scope.fresh_many(2)?;
+    let made = token + 1;
     let mut gotos = GotoLines {
         checks: Vec::new(maker.alloc),
         arms: Arms::new(maker.alloc),

@@ -186,7 +186,7 @@ fn lookahead_start<'p>(
     ensures made { OnOk result (making maker.new ≡ with_lookahead_start (listed line.entry) (making maker.old)) }
 {
     let start = part_closure(maker, 0)?;
-    let slot = scope.fresh();
+    let slot = scope.fresh()?;
     let args = vec![in maker.alloc; Expr::take(slot)]?;
     let some = Expr::call(start, args);
     let none = bottom(maker, scope, line)?;

@@ -80,20 +80,20 @@ fn no_lines<'p>(
 {
     let made = scope.bind(maker.alloc, "~result")?;
     Ok(StateParts {
-        lines: shared_of(header, made, scope),
+        lines: shared_of(maker.prefix, header, made, scope),
         parts: Vec::new(maker.alloc),
         arms: Arms::new(maker.alloc),
         after: None,
     })
 }
 
-fn shared_of(header: Form<'_>, made: usize, scope: &Scope) -> Lines
-    ensures { result ≡ shared_of (listed header.entry) made scope.now }
+fn shared_of(prefix: &str, header: Form<'_>, made: usize, scope: &Scope) -> Lines
+    ensures { result ≡ shared_of prefix.now (listed header.entry) made scope.now }
 {
     Lines {
         lookahead: scope.find("~lookahead").unwrap_or(usize::MAX),
         made,
-        kind: vec_type(header),
+        kind: vec_type(prefix, header),
     }
 }
 

@@ -1,5 +1,5 @@
 -- The functions of actions.
-use Rattle.std.specs.Prelude.{ℕ, zero, suc, ◌+◌, ◌-◌, ◌^◌, min, Bool, false, not, ◌&&◌, List, [], ◌∷◌, ◌++◌, length, codes, Option, Some, None, slice_get, if◌then◌else◌}
+use Rattle.std.specs.Prelude.{ℕ, zero, suc, ◌+◌, Bool, false, not, ◌&&◌, List, [], ◌∷◌, ◌++◌, length, codes, Option, Some, None, slice_get, if◌then◌else◌}
 use Rattle.lp_core.specs.declared.expr.Function.{Function}
 use Rattle.lp_core.specs.declared.expr.Join.TheVariants as join
 use Rattle.lp_core.specs.Tree.{Tree}
@@ -13,16 +13,20 @@ use Rattle.lp_maker.specs.Making.{Making, with_text, read_name, parameters}
 use Rattle.lp_bodies.specs.Lines.{Lines}
 use Rattle.lp_bodies.specs.Inlining.{inline_lines}
 
--- whether a printed type is a result with a parse error
-abbrev pub can_fail : List ℕ → Bool
-can_fail answer = begins (codes "Result<") answer && holds (codes "lalrpop_util::ParseError<") answer
+-- how the type of a parse error begins, which no type of the grammar holds, since none has the prefix
+abbrev pub parse_error : List ℕ → List ℕ
+parse_error prefix = prefix ++ codes "lalrpop_util::ParseError<"
 
-abbrev pub fallible_row : Bool → Form → Bool
-fallible_row before row = if is_a part.ResultType row then can_fail (hole_of 0 row) else before
+-- whether a printed type is a result with this in it
+abbrev pub can_fail : List ℕ → List ℕ → Bool
+can_fail error answer = begins (codes "Result<") answer && holds error answer
 
--- whether the function of this header can fail
-abbrev pub is_fallible : Form → Bool
-is_fallible header = over fallible_row false (parts_of header)
+abbrev pub fallible_row : List ℕ → Bool → Form → Bool
+fallible_row error before row = if is_a part.ResultType row then can_fail error (hole_of 0 row) else before
+
+-- whether the function of this header can fail with what begins so
+abbrev pub is_fallible : List ℕ → Form → Bool
+is_fallible error header = over (fallible_row error) false (parts_of header)
 
 -- whether a name is the grammar's own
 abbrev pub is_own : List ℕ → Binding → Bool
@@ -34,7 +38,7 @@ abbrev pub is_parameter : List ℕ → Form → Bool
 is_parameter prefix row = is_a part.ParameterRow row && is_own prefix (bound_of (hole_of 0 row))
 
 abbrev pub counted_row : List ℕ → ℕ → Form → ℕ
-counted_row prefix count row = if is_parameter prefix row then min (count + 1) (2 ^ 64 - 1) else count
+counted_row prefix count row = if is_parameter prefix row then count + 1 else count
 
 -- how many parameters of the grammar this header has
 abbrev pub parameter_count : List ℕ → Form → ℕ
@@ -51,7 +55,7 @@ code_of body = norm_of (hole_of 0 body)
 
 -- a call of user code, with all arguments of the function in order
 abbrev pub user_call : Making → Form → Names → Tree
-user_call m header names = joined (join.Event (length m.texts) (is_fallible header) (parameter_count m.prefix header)) (takes names.next)
+user_call m header names = joined (join.Event (length m.texts) (is_fallible (parse_error m.prefix) header) (parameter_count m.prefix header)) (takes names.next)
 
 -- the value of a body, and the names that it leaves
 pub record Body : Type 0 where

@@ -72,18 +72,14 @@ field_row fields args row = if is_a part.SelfRow row then args ++ read_name fiel
 abbrev pub field_rows : Names → Form → List Tree
 field_rows fields form = over (field_row fields) [] (parts_of form)
 
--- a slot so many after another
-abbrev pub slot_at : ℕ → ℕ → ℕ
-slot_at first n = min (first + n) (2 ^ 64 - 1)
-
 -- `~reduce(self.param, .., action, start_location, states, symbols)`
 abbrev pub reduce_arguments : Names → ℕ → Form → List Tree
 reduce_arguments fields count form =
-    field_rows fields form ++ take_slot (slot_at count 0) ∷ take_slot (slot_at count 1) ∷ take_slot (slot_at count 2) ∷ take_slot (slot_at count 3) ∷ []
+    field_rows fields form ++ take_slot count ∷ take_slot (count + 1) ∷ take_slot (count + 2) ∷ take_slot (count + 3) ∷ []
 
 abbrev pub with_reduce_method : Form → Names → ℕ → Making → Making
 with_reduce_method form fields count m =
-    with_method (slot_at count 4) (call_named (codes "reduce") (reduce_arguments fields count form) m) m
+    with_method (count + 4) (call_named (codes "reduce") (reduce_arguments fields count form) m) m
 
 -- what was made after each of the methods, in their order
 abbrev pub after_location : Making → Making

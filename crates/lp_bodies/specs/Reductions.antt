@@ -1,5 +1,5 @@
 -- Reductions of table-driven code.
-use Rattle.std.specs.Prelude.{ℕ, ◌+◌, ◌-◌, ◌^◌, min, ◌||◌, Bool, List, [], ◌∷◌, ◌++◌, length, codes, Option, Some, None, slice_get, if◌then◌else◌}
+use Rattle.std.specs.Prelude.{ℕ, ◌+◌, ◌||◌, Bool, List, [], ◌∷◌, ◌++◌, length, codes, Option, Some, None, slice_get, if◌then◌else◌}
 use Rattle.lp_core.specs.declared.expr.Function.{Function}
 use Rattle.lp_core.specs.declared.expr.Join.TheVariants as join
 use Rattle.lp_core.specs.declared.expr.Op.TheVariants as op
@@ -11,7 +11,7 @@ use Rattle.lp_core.specs.Tree.{Tree, Apply, Match, trees_of}
 use Rattle.lp_form.specs.declared.part.Part.TheVariants as part
 use Rattle.lp_view.specs.PartLists.{Form, is_a, hole_of, parts_of, over}
 use Rattle.lp_maker.specs.Numbers.{number_of}
-use Rattle.lp_maker.specs.Texts.{cut_at, without_end, state_type_of}
+use Rattle.lp_maker.specs.Texts.{after_front, without_end, state_type_of}
 use Rattle.lp_maker.specs.Slots.{Names, no_names, after_slots, cut_to}
 use Rattle.lp_maker.specs.Constructs.{stuck, read, take_slot, write, joined, call_function, one_after_another, give_back, here, on_option, on_result, absent, index, function_of}
 use Rattle.lp_maker.specs.Making.{Making, with_function, with_variant, variant_tag, read_name, read_all, call_named, parameters}
@@ -164,26 +164,32 @@ abbrev pub reduce_arm : Making → Names → Form → Done
 reduce_arm m names row =
     if is_a part.ReduceCallArm row then done_of (arm_call m names row) names m else found_body m names (slice_get (parts_of row) 0)
 
--- the state type in a row, if it names the parameter of states
-abbrev pub type_in : List ℕ → ℕ → Option StateType → Option (List ℕ × List ℕ) → Option StateType
-type_in before after kind None = kind
-type_in before after kind (Some cut) = state_type_of (without_end after cut.1)
+-- what follows these two texts at the front of another
+abbrev pub after_both : List ℕ → Option (List ℕ) → Option (List ℕ)
+after_both before None = None
+after_both before (Some rest) = after_front before rest
 
-abbrev pub type_row : List ℕ → ℕ → Option StateType → Form → Option StateType
-type_row before after kind row =
-    if is_a part.ParameterRow row then type_in before after kind (cut_at before (hole_of 0 row)) else kind
+-- the state type in a row, if it is the one of the parameter of states
+abbrev pub type_in : ℕ → Option StateType → Option (List ℕ) → Option StateType
+type_in after kind None = kind
+type_in after kind (Some rest) = state_type_of (without_end after rest)
 
--- the state type of the parameter whose type stands between these
-abbrev pub element_type : List ℕ → ℕ → Form → Option StateType
-element_type before after header = over (type_row before after) None (parts_of header)
+abbrev pub type_row : List ℕ → List ℕ → ℕ → Option StateType → Form → Option StateType
+type_row prefix before after kind row =
+    if is_a part.ParameterRow row then type_in after kind (after_both before (after_front prefix (hole_of 0 row))) else kind
+
+-- the state type of the parameter whose row has the prefix and then the first of these in front of it, and only
+-- bytes of the second behind it
+abbrev pub element_type : List ℕ → List ℕ → ℕ → Form → Option StateType
+element_type prefix before after header = over (type_row prefix before after) None (parts_of header)
 
 -- the state type of the parameter that is a list of states
-abbrev pub vec_type : Form → Option StateType
-vec_type header = element_type (codes "states: &mut alloc::vec::Vec<") 62 header
+abbrev pub vec_type : List ℕ → Form → Option StateType
+vec_type prefix header = element_type prefix (codes "states: &mut alloc::vec::Vec<") 62 header
 
 -- the state type of the parameter that is a slice of states
-abbrev pub slice_type : Form → Option StateType
-slice_type header = element_type (codes "states: &[") 93 header
+abbrev pub slice_type : List ℕ → Form → Option StateType
+slice_type prefix header = element_type prefix (codes "states: &[") 93 header
 
 -- the arms so far with the state type, and what was made
 pub record Arming : Type 0 where
@@ -210,7 +216,7 @@ with_arm row a m = (reduce_arm m a.names row).made
 -- a row is an arm, or the header
 abbrev pub reduce_row : Arming → Form → Arming
 reduce_row s row =
-    if is_arm row then arming_of (arm_row s.made row s.arms) s.kind (with_arm row s.arms s.made) else arming_of (with_header s.made.prefix row s.arms) (vec_type row) s.made
+    if is_arm row then arming_of (arm_row s.made row s.arms) s.kind (with_arm row s.arms s.made) else arming_of (with_header s.made.prefix row s.arms) (vec_type s.made.prefix row) s.made
 
 abbrev pub reduce_from : Gathered → Making → Form → Arming
 reduce_from a m form = over reduce_row (arming_of a None m) (parts_of form)
@@ -242,28 +248,15 @@ reduced_lines m names kind pop nonterminal length state produced =
     ∷ absent
     ∷ []
 
--- the slot after one
-abbrev pub next_slot : ℕ → ℕ
-next_slot slot = min (slot + 1) (2 ^ 64 - 1)
-
--- the names after the two parts of what was produced, after the length, and after the state
-abbrev pub after_pop : Names → Names
-after_pop names = after_slots 2 names
-
-abbrev pub after_length : Names → Names
-after_length names = after_slots 1 (after_pop names)
-
-abbrev pub after_state : Names → Names
-after_state names = after_slots 1 (after_length names)
-
-abbrev pub reduced : Making → Names → Option StateType → Tree → Tree
-reduced m names kind produced =
-    one_after_another (reduced_lines m names kind names.next (next_slot names.next) (after_pop names).next (after_length names).next produced)
+-- the four slots stand one after another, the first one of them here
+abbrev pub reduced : Making → Names → Option StateType → ℕ → Tree → Tree
+reduced m names kind first produced =
+    one_after_another (reduced_lines m names kind first (first + 1) (first + 2) (first + 3) produced)
 
 -- the function of what the arms produce
 abbrev pub reduce_with : Making → Option StateType → Gathered → Function
 reduce_with m kind a =
-    function_of a.params (after_state (after_slots 1 a.names)) (reduced m (after_slots 1 a.names) kind (choice (read_name a.names (codes "~action")) stuck a))
+    function_of a.params (after_slots 4 (after_slots 1 a.names)) (reduced m a.names kind (after_slots 1 a.names).next (choice (read_name a.names (codes "~action")) stuck a))
 
 -- the reductions by production, and what is made then
 abbrev pub reduce_function : Making → Form → Function

@@ -10,9 +10,10 @@ use Rattle.lp_core.specs.declared.value.Tag.{Tag}
 use Rattle.lp_core.specs.declared.value.Tag.TheVariants as tag
 use Rattle.lp_core.specs.Tree.{Tree, Plain, Apply, If, Match, trees_of}
 use Rattle.lp_form.specs.declared.part.Part.TheVariants as part
+use Rattle.lp_view.specs.Elements.{patterns}
 use Rattle.lp_view.specs.PartLists.{Form, is_a, hole_of, numbers_of, parts_of, over}
 use Rattle.lp_maker.specs.Numbers.{number_of, wide_number_of, range_of}
-use Rattle.lp_maker.specs.Patterns.{capture_of, captures_of, form_of, patterns_of}
+use Rattle.lp_maker.specs.Patterns.{capture_of, captures_of, form_of}
 use Rattle.lp_maker.specs.Slots.{Names, after_slots, slot_of}
 use Rattle.lp_maker.specs.Texts.{holds, pieces, state_type_of}
 use Rattle.lp_maker.specs.Constructs.{stuck, read, write, joined, call_function, one_after_another, absent, state, index, function_of}
@@ -184,7 +185,7 @@ pattern_arm variant token names s pattern =
 
 abbrev pub pattern_arms : Tag → ℕ → List (List ℕ) → Reading → List (List ℕ) → Reading
 pattern_arms variant token names s [] = s
-pattern_arms variant token names s (pattern ∷ patterns) = pattern_arms variant token names (pattern_arm variant token names s pattern) patterns
+pattern_arms variant token names s (pattern ∷ others) = pattern_arms variant token names (pattern_arm variant token names s pattern) others
 
 abbrev pub matched_by : Tree → ℕ → Names → Reading → Done
 matched_by token slot names s = done_of (choice_at token slot stuck s.arms) names s.made
@@ -192,7 +193,7 @@ matched_by token slot names s = done_of (choice_at token slot stuck s.arms) name
 -- a symbol by the patterns of its tokens
 abbrev pub symbol_match : Making → Names → Form → Done
 symbol_match m names row =
-    matched_by (take_name names (codes "~token")) names.next (after_slots 1 names) (pattern_arms (variant_tag (hole_of 2 row) m) names.next (captures_of (hole_of 3 row)) (reading_of no_arms (with_variant (hole_of 2 row) m)) (patterns_of (hole_of 1 row)))
+    matched_by (take_name names (codes "~token")) names.next (after_slots 1 names) (pattern_arms (variant_tag (hole_of 2 row) m) names.next (captures_of (hole_of 3 row)) (reading_of no_arms (with_variant (hole_of 2 row) m)) (patterns (hole_of 1 row)))
 
 -- a symbol that is its token
 abbrev pub symbol_whole : Making → Names → Form → Done

@@ -1,5 +1,5 @@
 -- What a reduction would do, and whether a stack of states accepts a token.
-use Rattle.std.specs.Prelude.{ℕ, ◌||◌, Bool, true, false, List, [], ◌∷◌, ◌++◌, codes, Option, Some, None, if◌then◌else◌}
+use Rattle.std.specs.Prelude.{ℕ, ◌+◌, ◌||◌, Bool, true, false, List, [], ◌∷◌, ◌++◌, codes, Option, Some, None, if◌then◌else◌}
 use Rattle.lp_core.specs.declared.expr.Function.{Function}
 use Rattle.lp_core.specs.declared.expr.Join.TheVariants as join
 use Rattle.lp_core.specs.declared.expr.Leaf.TheVariants as leaf
@@ -15,7 +15,7 @@ use Rattle.lp_maker.specs.Slots.{Names, after_slots, bound}
 use Rattle.lp_maker.specs.Constructs.{stuck, read, take_slot, write, joined, one_after_another, give_back, on_tags, on_option, index, function_of}
 use Rattle.lp_maker.specs.Making.{Making, read_name, call_named, parameters}
 use Rattle.lp_bodies.specs.Arms.{Gathered, no_arms, with_header, with_number_case, with_body, choice_function}
-use Rattle.lp_bodies.specs.Reductions.{next_slot, slice_type, states}
+use Rattle.lp_bodies.specs.Reductions.{slice_type, states}
 
 abbrev pub is_simulated : Form → Bool
 is_simulated row = is_a part.SimulateAccept row || is_a part.SimulateArm row
@@ -81,55 +81,33 @@ trial_entry m names top integer =
 abbrev pub simulated_call : Making → ℕ → Tree
 simulated_call m action = call_named (codes "simulate_reduce") (production_of action ∷ []) m
 
--- the slots of a turn, one after another: the length, its last state, the action, the token, the simulated reduction,
--- its two parts, and the state that the goto goes from
-abbrev pub slot1 : Names → Names
-slot1 names = after_slots 1 names
-
-abbrev pub turn_names : Names → Names
-turn_names names = slot1 (slot1 (slot1 (slot1 names)))
-
-abbrev pub simulated_names : Names → Names
-simulated_names names = slot1 (turn_names names)
-
-abbrev pub goto_names : Names → Names
-goto_names names = after_slots 2 (simulated_names names)
-
-abbrev pub turn_end : Names → Names
-turn_end names = slot1 (goto_names names)
-
--- one turn of a trial
-abbrev pub trial_turn : Making → Names → Option StateType → ℕ → Tree
-trial_turn m names kind states =
-    let length = names.next in
-    let top = (slot1 names).next in
-    let action = (slot1 (slot1 names)).next in
-    let integer = (slot1 (slot1 (slot1 names))).next in
-    let slot = (turn_names names).next in
-    let pop = (simulated_names names).next in
+-- one turn of a trial, whose eight slots stand one after another: the length, its last state, the action, the token,
+-- the simulated reduction, its two parts, and the state that the goto goes from
+abbrev pub trial_turn : Making → Names → Option StateType → ℕ → ℕ → Tree
+trial_turn m names kind states length =
     one_after_another (
     (write length (Apply op.Length (read states))
-    ∷ write top (last_state kind states length)
-    ∷ write action (trial_entry m names top integer)
-    ∷ answer_if op.IsZero action false
-    ∷ answer_if op.IsPositive action true
-    ∷ simulated_parts (simulated_call m action) slot pop
-    ∷ write length (joined join.Subtract (read length ∷ read pop ∷ []))
+    ∷ write (length + 1) (last_state kind states length)
+    ∷ write (length + 2) (trial_entry m names (length + 1) (length + 3))
+    ∷ answer_if op.IsZero (length + 2) false
+    ∷ answer_if op.IsPositive (length + 2) true
+    ∷ simulated_parts (simulated_call m (length + 2)) (length + 4) (length + 5)
+    ∷ write length (joined join.Subtract (read length ∷ read (length + 5) ∷ []))
     ∷ joined join.Truncate (read states ∷ read length ∷ [])
-    ∷ []) ++ goto_lines m kind states (next_slot pop) length (goto_names names).next)
+    ∷ []) ++ goto_lines m kind states (length + 6) length (length + 7))
 
 -- the lines of a trial, where the copy of the states has this slot
 abbrev pub accepts_lines : Making → Names → Option StateType → List Tree
 accepts_lines m names kind =
     write names.next (Apply op.CopyStates (states names))
     ∷ joined join.Extend (read names.next ∷ read_name (bound (codes "~states") names) (codes "~error_state") ∷ [])
-    ∷ Loop (trial_turn m (bound (codes "~states") names) kind names.next)
+    ∷ Loop (trial_turn m (bound (codes "~states") names) kind names.next (bound (codes "~states") names).next)
     ∷ []
 
 abbrev pub accepts_under : Making → Names → Option StateType → Function
 accepts_under m names kind =
-    function_of names.next (turn_end (bound (codes "~states") names)) (one_after_another (accepts_lines m names kind))
+    function_of names.next (after_slots 8 (bound (codes "~states") names)) (one_after_another (accepts_lines m names kind))
 
 -- whether a stack of states accepts a token
 abbrev pub accepts_function : Making → Form → Function
-accepts_function m header = accepts_under m (parameters m.prefix header) (slice_type header)
+accepts_function m header = accepts_under m (parameters m.prefix header) (slice_type m.prefix header)

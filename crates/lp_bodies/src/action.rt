@@ -13,7 +13,7 @@ use lp_form::Part;
 use lp_maker::forms::{Form, first, is_a, second};
 use lp_maker::maker::Maker;
 use lp_maker::scope::Scope;
-use lp_maker::texts::{Bound, begins, bound_by, holds};
+use lp_maker::texts::{Bound, begins, bound_by, holds, numbered};
 use lp_repr::{Text, norm};
 use std::alloc::{AllocError, Global};
 
@@ -101,8 +101,9 @@ fn user_call<'p>(
     let code = Text::from_str(maker.alloc, norm(body.hole(0)))?;
     let code = maker.text(code)?;
     let args = takes(maker.alloc, scope.slots())?;
-    let fallible = is_fallible(header);
-    let params = parameter_count(maker.prefix, header);
+    let error = numbered(maker.alloc, maker.prefix, "lalrpop_util::ParseError<")?;
+    let fallible = is_fallible(error.as_str(), header);
+    let params = parameter_count(maker.prefix, header)?;
     let join = Join::Event {
         code,
         fallible,
@@ -123,52 +124,52 @@ pub fn takes(alloc: Global, count: usize) -> Result<Vec<Expr>, AllocError>
     Ok(args)
 }
 
-// Whether a printed type is a result with a parse error.
-fn can_fail(answer: &str) -> bool
-    ensures { result ≡ can_fail answer.now }
+// Whether a printed type is a result with this in it.
+fn can_fail(error: &str, answer: &str) -> bool
+    ensures { result ≡ can_fail error.now answer.now }
 {
-    begins("Result<", answer) && holds("lalrpop_util::ParseError<", answer)
+    begins("Result<", answer) && holds(error, answer)
 }
 
-// Whether the function of this header can fail.
-fn is_fallible(header: Form<'_>) -> bool
-    ensures { result ≡ is_fallible (listed header.entry) }
+// Whether the function of this header can fail with what begins so.
+fn is_fallible(error: &str, header: Form<'_>) -> bool
+    ensures { result ≡ is_fallible error.now (listed header.entry) }
 {
     let mut fallible = false;
     for row in header.parts() {
-        fallible = fallible_row(fallible, row);
+        fallible = fallible_row(error, fallible, row);
     }
     fallible
 }
 
-fn fallible_row(before: bool, row: Form<'_>) -> bool
-    ensures { result ≡ fallible_row before (listed row.entry) }
+fn fallible_row(error: &str, before: bool, row: Form<'_>) -> bool
+    ensures { result ≡ fallible_row error.now before (listed row.entry) }
 {
     if is_a(Part::ResultType, row) {
-        can_fail(row.hole(0))
+        can_fail(error, row.hole(0))
     } else {
         before
     }
 }
 
 // How many parameters of the grammar this header has: those with a name that isn't the form's own.
-fn parameter_count(prefix: &str, header: Form<'_>) -> usize
-    ensures { result ≡ parameter_count prefix.now (listed header.entry) }
+fn parameter_count(prefix: &str, header: Form<'_>) -> Result<usize, AllocError>
+    ensures { IfOk result (λ n. n ≡ parameter_count prefix.now (listed header.entry)) }
 {
     let mut count = 0usize;
     for row in header.parts() {
-        count = counted_row(prefix, count, row);
+        count = counted_row(prefix, count, row)?;
     }
-    count
+    Ok(count)
 }
 
-fn counted_row(prefix: &str, count: usize, row: Form<'_>) -> usize
-    ensures { result ≡ counted_row prefix.now count (listed row.entry) }
+fn counted_row(prefix: &str, count: usize, row: Form<'_>) -> Result<usize, AllocError>
+    ensures { IfOk result (λ n. n ≡ counted_row prefix.now count (listed row.entry)) }
 {
     if is_parameter(prefix, row) {
-        count.saturating_add(1)
+        count.checked_add(1).ok_or(AllocError)
     } else {
-        count
+        Ok(count)
     }
 }
 

@@ -91,7 +91,7 @@ impl Arms {
             mut bodies,
         } = self;
         bodies.push(last)?;
-        let slot = scope.fresh();
+        let slot = scope.fresh()?;
         let body = Expr::select(alloc, value, slot, cases, bodies)?;
         Ok((params, scope, body))
     }

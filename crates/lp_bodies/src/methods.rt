@@ -1,6 +1,6 @@
 //! What the driver asks: the methods of the machine.
 
-ghost use Rattle.std.specs.Prelude.{◌≡◌, length, IfOk, OnOk};
+ghost use Rattle.std.specs.Prelude.{◌≡◌, ◌+◌, ◌<◌, ◌^◌, length, IfOk, OnOk};
 ghost use Rattle.lp_view.specs.PartLists.{listed};
 ghost use Rattle.lp_maker.specs.Making.{making};
 ghost use Rattle.lp_bodies.specs.MachineMethods.{with_method, handed_on, difference, less_found, last_terminal, with_error_action, with_eof_action, recovering_of, recovery_row, recovery_rows, uses_number, symbol_number, with_recovery, field_row, field_rows, reduce_arguments, with_reduce_method, with_methods, methods_of};
@@ -179,9 +179,10 @@ fn reduce_method<'p>(
     ensures number { IfOk result (λ n. n ≡ length (making maker.old).functions) }
     ensures made { OnOk result (making maker.new ≡ with_reduce_method (listed form.entry) fields.now field_count (making maker.old)) }
 {
+    let params = field_count.checked_add(4).ok_or(AllocError)?;
     let args = reduce_arguments(maker, form, fields, field_count)?;
     let body = maker.call("reduce", "", args)?;
-    method(maker, field_count.saturating_add(4), body)
+    method(maker, params, body)
 }
 
 fn reduce_arguments<'p>(
@@ -190,13 +191,14 @@ fn reduce_arguments<'p>(
     fields: &Scope,
     field_count: usize,
 ) -> Result<Vec<Expr>, AllocError>
+    requires { field_count + 4 < 2 ^ 64 }
     ensures { IfOk result (λ args. args.items ≡ reduce_arguments fields.now field_count (listed form.entry)) }
 {
     let mut args = field_rows(maker, form, fields)?;
-    args.push(Expr::take(field_count.saturating_add(0)))?;
-    args.push(Expr::take(field_count.saturating_add(1)))?;
-    args.push(Expr::take(field_count.saturating_add(2)))?;
-    args.push(Expr::take(field_count.saturating_add(3)))?;
+    args.push(Expr::take(field_count))?;
+    args.push(Expr::take(field_count + 1))?;
+    args.push(Expr::take(field_count + 2))?;
+    args.push(Expr::take(field_count + 3))?;
     Ok(args)
 }
 

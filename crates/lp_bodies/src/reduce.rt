@@ -1,12 +1,13 @@
 //! Reductions of table-driven code.
 
-ghost use Rattle.std.specs.Prelude.{◌≡◌, Some, length, IfOk, OnOk};
-ghost use Rattle.std.specs.Option.{option_map};
+ghost use Rattle.std.specs.Prelude.{◌≡◌, ◌+◌, ◌<◌, ◌^◌, Some, length, IfOk, OnOk};
+ghost use Rattle.std.specs.Option.{option_copied, option_map};
 ghost use Rattle.lp_view.specs.PartLists.{hole_of, listed};
 ghost use Rattle.lp_maker.specs.Making.{making, with_function, with_variant};
+ghost use Rattle.lp_maker.specs.Texts.{after_front};
 ghost use Rattle.lp_bodies.specs.Arms.{gathered};
 ghost use Rattle.lp_bodies.specs.Lines.{lines_of};
-ghost use Rattle.lp_bodies.specs.Reductions.{work_of, symbols, assert_line, pop_line, symbol_side, span_popped, span_at, part_function, with_last_end, last_end_number, empty_place, span_empty, reduced_call, checked, called_value, called_names, call_line, start_line, symbol_triple, push_line, is_call, quiet_line, reduce_line, reduce_lines, done_of, reduce_body, found_body, arm_call, reduce_arm, type_row, element_type, vec_type, slice_type, arming_of, is_arm, arm_row, with_arm, reduce_row, reduce_from, states, push_next, top_of, after_state, reduced, reduce_with, reduce_function, with_reduce, production_function, with_production_of, reduce_fn, with_reduce_fn, mismatch, pop_match, pop_lines, pop_function};
+ghost use Rattle.lp_bodies.specs.Reductions.{work_of, symbols, assert_line, pop_line, symbol_side, span_popped, span_at, part_function, with_last_end, last_end_number, empty_place, span_empty, reduced_call, checked, called_value, called_names, call_line, start_line, symbol_triple, push_line, is_call, quiet_line, reduce_line, reduce_lines, done_of, reduce_body, found_body, arm_call, reduce_arm, after_both, type_row, element_type, vec_type, slice_type, arming_of, is_arm, arm_row, with_arm, reduce_row, reduce_from, states, push_next, top_of, reduced, reduce_with, reduce_function, with_reduce, production_function, with_production_of, reduce_fn, with_reduce_fn, mismatch, pop_match, pop_lines, pop_function};
 
 use crate::arms::Arms;
 use crate::lines::push_let;
@@ -17,7 +18,7 @@ use lp_form::Part;
 use lp_maker::forms::{Form, first, is_a, second};
 use lp_maker::maker::{Maker, here};
 use lp_maker::scope::Scope;
-use lp_maker::texts::{cut_at, number, numbered, state_type_of, without_end};
+use lp_maker::texts::{after_front, number, numbered, state_type_of, without_end};
 use std::alloc::AllocError;
 
 /// The reductions by production.
@@ -59,7 +60,7 @@ fn reduce_row<'p>(
         Ok(kind)
     } else {
         arms.header(maker, row)?;
-        Ok(vec_type(row))
+        Ok(vec_type(maker.prefix, row))
     }
 }
 
@@ -88,7 +89,8 @@ fn reduce_with<'p>(
 {
     let action = maker.name(&arms.scope, "~action");
     let (params, mut scope, produced) = arms.choice(maker.alloc, action, Expr::stuck())?;
-    let body = reduced(maker, &mut scope, kind, produced)?;
+    let first = scope.fresh_many(4)?;
+    let body = reduced(maker, &scope, kind, first, produced)?;
     Ok(maker.function(params, &scope, body))
 }
 
@@ -113,26 +115,27 @@ fn top_of<'p>(maker: &Maker<'p>, kind: Option<StateType>, list: Expr) -> Result<
     }
 }
 
-// Takes the states of what was reduced off, and pushes the goto.
+// Takes the states of what was reduced off, and pushes the goto. The first one of four slots is here.
 fn reduced<'p>(
     maker: &Maker<'p>,
-    scope: &mut Scope,
+    scope: &Scope,
     kind: Option<StateType>,
+    first: usize,
     produced: Expr,
 ) -> Result<Expr, AllocError>
-    ensures value { IfOk result (λ v. v ≡ reduced (making maker.now) scope.old kind produced) }
-    ensures names { OnOk result (scope.new ≡ after_state scope.old) }
+    requires { first + 4 < 2 ^ 64 }
+    ensures { IfOk result (λ v. v ≡ reduced (making maker.now) scope.now kind first produced) }
 {
-    let (pop, unpacked) = maker.unpack(scope, 2, produced)?;
-    let length = scope.fresh();
-    let state = scope.fresh();
+    let length = first + 2;
+    let state = first + 3;
+    let unpacked = maker.apply(Op::Parts(first, 2), produced)?;
     let measured = maker.apply(Op::Length, states(maker, scope))?;
     let measured = maker.write(length, measured)?;
-    let cut = maker.pair(Join::Subtract, Expr::read(length), Expr::read(pop))?;
+    let cut = maker.pair(Join::Subtract, Expr::read(length), Expr::read(first))?;
     let truncated = maker.pair(Join::Truncate, states(maker, scope), cut)?;
     let top = top_of(maker, kind, states(maker, scope))?;
     let top = maker.write(state, top)?;
-    let pushed = push_next(maker, scope, state, pop.saturating_add(1))?;
+    let pushed = push_next(maker, scope, state, first + 1)?;
     let parts = vec![in maker.alloc; unpacked, measured, truncated, top, pushed, maker.absent()]?;
     Ok(Expr::block(parts))
 }
@@ -378,7 +381,7 @@ fn span_empty<'p>(
     ensures made { OnOk result (making maker.new ≡ with_last_end (making maker.old)) }
 {
     let last_end = last_end_closure(maker)?;
-    let slot = scope.fresh();
+    let slot = scope.fresh()?;
     let value = empty_place(maker, scope, last_end, slot)?;
     span_at(maker, scope, value, parts)
 }
@@ -450,7 +453,7 @@ fn called_value<'p>(
     if is_a(Part::CallPlain, line) {
         Ok(call)
     } else {
-        let slot = scope.fresh();
+        let slot = scope.fresh()?;
         checked(maker, slot, call)
     }
 }
@@ -518,39 +521,56 @@ fn symbol_triple<'p>(maker: &Maker<'p>, scope: &Scope, variant: Tag) -> Result<E
 }
 
 /// The state type of the parameter that is a slice of states.
-pub fn slice_type(header: Form<'_>) -> Option<StateType>
-    ensures { result ≡ slice_type (listed header.entry) }
+pub fn slice_type(prefix: &str, header: Form<'_>) -> Option<StateType>
+    ensures { result ≡ slice_type prefix.now (listed header.entry) }
 {
-    element_type("states: &[", b']', header)
+    element_type(prefix, "states: &[", b']', header)
 }
 
 /// The state type of the parameter that is a list of states.
-pub fn vec_type(header: Form<'_>) -> Option<StateType>
-    ensures { result ≡ vec_type (listed header.entry) }
+pub fn vec_type(prefix: &str, header: Form<'_>) -> Option<StateType>
+    ensures { result ≡ vec_type prefix.now (listed header.entry) }
 {
-    element_type("states: &mut alloc::vec::Vec<", b'>', header)
+    element_type(prefix, "states: &mut alloc::vec::Vec<", b'>', header)
 }
 
-// The state type of the parameter whose type stands between these.
-fn element_type(before: &str, after: u8, header: Form<'_>) -> Option<StateType>
-    ensures { result ≡ element_type before.now after (listed header.entry) }
+// The state type of the parameter whose row has the prefix and `before` in front of it, and only bytes
+// `after` behind it.
+fn element_type(prefix: &str, before: &str, after: u8, header: Form<'_>) -> Option<StateType>
+    ensures { result ≡ element_type prefix.now before.now after (listed header.entry) }
 {
     let mut kind = None;
     for row in header.parts() {
-        kind = type_row(before, after, kind, row);
+        kind = type_row(prefix, before, after, kind, row);
     }
     kind
 }
 
-fn type_row(before: &str, after: u8, kind: Option<StateType>, row: Form<'_>) -> Option<StateType>
-    ensures { result ≡ type_row before.now after kind (listed row.entry) }
+fn type_row(
+    prefix: &str,
+    before: &str,
+    after: u8,
+    kind: Option<StateType>,
+    row: Form<'_>,
+) -> Option<StateType>
+    ensures { result ≡ type_row prefix.now before.now after kind (listed row.entry) }
 {
     if !is_a(Part::ParameterRow, row) {
         return kind;
     }
-    match cut_at(before, row.hole(0)) {
+    match after_both(prefix, before, row.hole(0)) {
         None => kind,
-        Some((_, rest)) => state_type_of(without_end(after, rest.as_bytes())),
+        Some(rest) => state_type_of(without_end(after, rest.as_bytes())),
+    }
+}
+
+// What follows the two texts at the front of another.
+fn after_both<'t>(prefix: &str, before: &str, text: &'t str) -> Option<&'t str>
+    ensures { option_copied result ≡ after_both before.now (after_front prefix.now text.now) }
+{
+    match after_front(prefix, text) {
+        None => None,
+        Some(rest) => after_front(before, rest),
     }
 }
 

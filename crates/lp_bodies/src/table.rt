@@ -1,6 +1,7 @@
 //! The functions of a module that look at tables and tokens.
 
 ghost use Rattle.std.specs.Prelude.{◌≡◌, Some, length, map, IfOk, OnOk};
+ghost use Rattle.lp_view.specs.Elements.{patterns};
 ghost use Rattle.lp_view.specs.PartLists.{listed};
 ghost use Rattle.lp_maker.specs.Making.{making, with_function, with_table};
 ghost use Rattle.lp_bodies.specs.Arms.{gathered, no_arms};
@@ -13,10 +14,11 @@ use lp_core::{Expr, Function, Join, Leaf, Op, StateType, Table, Tag, Test};
 use lp_form::Part;
 use lp_maker::forms::{Form, is_a};
 use lp_maker::maker::Maker;
-use lp_maker::patterns::{capture, captures, form_of, patterns};
+use lp_maker::patterns::{capture, captures, form_of};
 use lp_maker::scope::Scope;
 use lp_maker::texts::{holds, number, parted, range, state_type, wide_number};
 use lp_repr::Text;
+use lp_view::patterns_of;
 use std::alloc::{AllocError, Global};
 
 /// A table of entries.
@@ -434,10 +436,9 @@ fn symbol_match<'p>(
 {
     let variant = maker.variant(row.hole(2))?;
     let token = maker.taken(scope, "~token");
-    let slot = scope.fresh();
+    let slot = scope.fresh()?;
     let names = captures(maker.alloc, row.hole(3))?;
-    let found = patterns(maker.alloc, row.hole(1))?;
-    let arms = pattern_arms(maker, variant, slot, names.as_slice(), found.as_slice())?;
+    let arms = pattern_arms(maker, variant, slot, names.as_slice(), row.hole(1))?;
     choice_at(maker, token, slot, Expr::stuck(), arms)
 }
 
@@ -446,13 +447,13 @@ fn pattern_arms<'p>(
     variant: Tag,
     token: usize,
     names: &[&str],
-    found: &[Text],
+    text: &str,
 ) -> Result<Arms, AllocError>
-    ensures { IfOk result (λ arms. reading_of (gathered arms) (making maker.new) ≡ pattern_arms variant token (map (λ name. name.now) names.now) (reading_of no_arms (making maker.old)) found.now) }
+    ensures { IfOk result (λ arms. reading_of (gathered arms) (making maker.new) ≡ pattern_arms variant token (map (λ name. name.now) names.now) (reading_of no_arms (making maker.old)) (patterns text.now)) }
 {
     let mut arms = Arms::new(maker.alloc);
-    for pattern in found {
-        pattern_arm(maker, variant, token, names, pattern.as_str(), &mut arms)?;
+    for pattern in patterns_of(text) {
+        pattern_arm(maker, variant, token, names, pattern, &mut arms)?;
     }
     Ok(arms)
 }

@@ -1,10 +1,10 @@
 //! What a reduction would do, and whether a stack of states accepts a token.
 
-ghost use Rattle.std.specs.Prelude.{◌≡◌, ◌++◌, IfOk, OnOk};
+ghost use Rattle.std.specs.Prelude.{◌≡◌, ◌+◌, ◌<◌, ◌^◌, ◌++◌, IfOk, OnOk};
 ghost use Rattle.lp_view.specs.PartLists.{listed};
 ghost use Rattle.lp_maker.specs.Making.{making};
 ghost use Rattle.lp_bodies.specs.Arms.{gathered};
-ghost use Rattle.lp_bodies.specs.Trials.{is_simulated, simulated, simulate_row, simulate_rows, simulate_function, answer_if, production_of, state_at, last_state, eof_entry, simulated_parts, goto_lines, trial_entry, simulated_call, turn_end, trial_turn, accepts_under, accepts_function};
+ghost use Rattle.lp_bodies.specs.Trials.{is_simulated, simulated, simulate_row, simulate_rows, simulate_function, answer_if, production_of, state_at, last_state, eof_entry, simulated_parts, goto_lines, trial_entry, simulated_call, trial_turn, accepts_under, accepts_function};
 
 use crate::arms::Arms;
 use crate::reduce::slice_type;
@@ -135,7 +135,7 @@ pub fn accepts<'p>(maker: &Maker<'p>, header: Form<'p>) -> Result<Function, Allo
     ensures { IfOk result (λ f. f ≡ accepts_function (making maker.now) (listed header.entry)) }
 {
     let scope = maker.parameters(header)?;
-    accepts_under(maker, scope, slice_type(header))
+    accepts_under(maker, scope, slice_type(maker.prefix, header))
 }
 
 fn accepts_under<'p>(
@@ -151,47 +151,52 @@ fn accepts_under<'p>(
     let copied = maker.write(states, copy)?;
     let extra = maker.name(&scope, "~error_state");
     let extended = maker.pair(Join::Extend, Expr::read(states), extra)?;
-    let turn = trial_turn(maker, &mut scope, kind, states)?;
+    let first = scope.fresh_many(8)?;
+    let turn = trial_turn(maker, &scope, kind, states, first)?;
     let turns = Expr::repeat(maker.alloc, turn)?;
     let body = Expr::block(vec![in maker.alloc; copied, extended, turns]?);
     Ok(maker.function(params, &scope, body))
 }
 
-// One turn of a trial.
+// One turn of a trial, whose first slot of eight is that of the length.
 fn trial_turn<'p>(
     maker: &Maker<'p>,
-    scope: &mut Scope,
+    scope: &Scope,
     kind: Option<StateType>,
     states: usize,
+    length: usize,
 ) -> Result<Expr, AllocError>
-    ensures value { IfOk result (λ v. v ≡ trial_turn (making maker.now) scope.old kind states) }
-    ensures names { OnOk result (scope.new ≡ turn_end scope.old) }
+    requires { length + 8 < 2 ^ 64 }
+    ensures { IfOk result (λ v. v ≡ trial_turn (making maker.now) scope.now kind states length) }
 {
-    let length = scope.fresh();
-    let top = scope.fresh();
-    let action = scope.fresh();
-    let integer = scope.fresh();
+    let top = length + 1;
+    let action = length + 2;
+    let pop = length + 5;
     let measured = maker.apply(Op::Length, Expr::read(states))?;
     let measured = maker.write(length, measured)?;
     let last = last_state(maker, kind, states, length)?;
     let last = maker.write(top, last)?;
-    let entry = trial_entry(maker, scope, top, integer)?;
+    let entry = trial_entry(maker, scope, top, length + 3)?;
     let entry = maker.write(action, entry)?;
     let refused = answer_if(maker, Op::IsZero, action, false)?;
     let shifted = answer_if(maker, Op::IsPositive, action, true)?;
     let simulated = simulated_call(maker, action)?;
-    let slot = scope.fresh();
-    let pop = scope.fresh_many(2);
-    let opened = simulated_parts(maker, simulated, slot, pop)?;
+    let opened = simulated_parts(maker, simulated, length + 4, pop)?;
     let less = maker.pair(Join::Subtract, Expr::read(length), Expr::read(pop))?;
     let less = maker.write(length, less)?;
     let cut = maker.pair(Join::Truncate, Expr::read(states), Expr::read(length))?;
-    let from = scope.fresh();
-    let next = pop.saturating_add(1);
     let mut parts = vec![in maker.alloc;
         measured, last, entry, refused, shifted, opened, less, cut,
     ]?;
-    push_goto(maker, kind, states, next, length, from, &mut parts)?;
+    push_goto(
+        maker,
+        kind,
+        states,
+        length + 6,
+        length,
+        length + 7,
+        &mut parts,
+    )?;
     Ok(Expr::block(parts))
 }
 

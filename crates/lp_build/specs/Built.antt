@@ -1,8 +1,8 @@
 -- What constructors put below a form.
-use Rattle.std.specs.Prelude.{ℕ, Bool, List, [], ◌∷◌, length, map, codes, Option, Some, None, if◌then◌else◌}
+use Rattle.std.specs.Prelude.{◌≡◌, ℕ, Bool, List, [], ◌∷◌, ◌++◌, length, map, codes, Option, Some, None, if◌then◌else◌}
 use Rattle.std.specs.List.{join_by}
 use Rattle.lp_form.specs.declared.part.Part.{Part}
-use Rattle.lp_tree.specs.ProgramTree.{Item, Note, all_notes, items, leaf, lines_note}
+use Rattle.lp_tree.specs.ProgramTree.{Item, Note, all_notes, head, head_notes, items, leaf, lines_note, notes_below, parts_below}
 use Rattle.lp_tree.specs.declared.tree.Node.{Node}
 
 -- a part with these texts, and with these parts below it
@@ -44,3 +44,10 @@ with_line old (Some line) = lines_note (line ∷ []) ∷ []
 -- texts with ` | ` between each two
 abbrev pub barred : List (List ℕ) → List ℕ
 barred texts = join_by (λ text. text) (codes " | ") texts
+
+-- a node as it was, with these parts behind those below it, and with these notes of theirs
+pub record AddsBelow (old new : Node) (parts : List Item) (notes : List (List Note)) : Type 0 where
+  pub same_head : head new ≡ head old
+  pub parts_added : parts_below new ≡ parts_below old ++ parts
+  pub same_notes : head_notes new ≡ head_notes old
+  pub notes_added : notes_below new ≡ notes_below old ++ notes

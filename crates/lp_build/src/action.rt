@@ -3,9 +3,11 @@
 ghost use Rattle.std.specs.Prelude.{◌≡◌, [], ◌∷◌, ◌++◌, map, IfOk, OnOk};
 ghost use Rattle.std.specs.List.{flat_map};
 ghost use Rattle.lp_build.specs.Actions.{action_part, body_lines, call_lines, call_part, outer_lines, outer_part, span_row};
+ghost use Rattle.lp_build.specs.Built.{AddsBelow};
 ghost use Rattle.lp_tree.specs.ProgramTree.{all_notes, head, head_notes, items, notes_below, parts_below, unnoted};
 
 use super::{add_texts, bare, text_row};
+use crate::rows::{Row, add_rows};
 use lp_form::Part;
 use lp_tree::piece::Piece;
 use lp_tree::tree::Node;
@@ -18,6 +20,19 @@ pub struct InlineSpan<'t> {
     pub number: u64,
     pub start: Piece<'t>,
     pub end: Piece<'t>,
+}
+
+impl<'t> Row<'t> for InlineSpan<'t> {
+    ghost use Rattle.lp_build.specs.Actions.{span_row};
+
+    ghost line = { span_row };
+
+    fn into_node(self, alloc: Global) -> Result<Node<'t>, AllocError> {
+        let InlineSpan { number, start, end } = self;
+        let number = Piece::number(alloc, number)?;
+        let holes = vec![in alloc; number, start, end]?;
+        Node::leaf(alloc, Part::InlineSpan, holes)
+    }
 }
 
 /// The call of an inlined action: its number among them, the action, type arguments, arguments, and
@@ -139,29 +154,10 @@ fn inline_body<'t>(
     ensures notes { IfOk result (λ n. all_notes n ≡ [] ∷ unnoted ((map span_row spans.entry.items ++ flat_map call_lines calls.entry.items) ++ outer_lines outer.entry)) }
 {
     let mut node = bare(alloc, Part::InlineBody)?;
-    add_spans(alloc, &mut node, spans)?;
+    add_rows(alloc, &mut node, spans)?;
     add_calls(alloc, &mut node, calls)?;
     node.add(outer_call(alloc, outer)?)?;
     Ok(node)
-}
-
-/// Puts the spans of inlined actions below the node.
-fn add_spans<'t>(
-    alloc: Global,
-    node: &mut Node<'t>,
-    spans: Vec<InlineSpan<'t>>,
-) -> Result<(), AllocError>
-    ensures head { head node.new ≡ head node.old }
-    ensures below { OnOk result (parts_below node.new ≡ parts_below node.old ++ map span_row spans.entry.items) }
-    ensures notes { head_notes node.new ≡ head_notes node.old }
-    ensures notes_below { OnOk result (notes_below node.new ≡ notes_below node.old ++ unnoted (map span_row spans.entry.items)) }
-{
-    for span in spans {
-        let InlineSpan { number, start, end } = span;
-        let number = Piece::number(alloc, number)?;
-        node.add(Node::leaf(alloc, Part::InlineSpan, vec![in alloc; number, start, end]?)?)?;
-    }
-    Ok(())
 }
 
 /// Puts the calls of inlined actions below the node.
@@ -170,10 +166,7 @@ fn add_calls<'t>(
     node: &mut Node<'t>,
     calls: Vec<InlineCall<'t>>,
 ) -> Result<(), AllocError>
-    ensures head { head node.new ≡ head node.old }
-    ensures below { OnOk result (parts_below node.new ≡ parts_below node.old ++ flat_map call_lines calls.entry.items) }
-    ensures notes { head_notes node.new ≡ head_notes node.old }
-    ensures notes_below { OnOk result (notes_below node.new ≡ notes_below node.old ++ unnoted (flat_map call_lines calls.entry.items)) }
+    ensures { OnOk result (AddsBelow node.old node.new (flat_map call_lines calls.entry.items) (unnoted (flat_map call_lines calls.entry.items))) }
 {
     for call in calls {
         node.add(inline_call(alloc, call)?)?;

@@ -4,10 +4,11 @@ ghost use Rattle.std.specs.Prelude.{◌≡◌, [], ◌∷◌, ◌++◌, map, dro
 ghost use Rattle.std.specs.Fmt.{decimal};
 ghost use Rattle.std.specs.List.{flat_map};
 ghost use Rattle.lp_build.specs.Ascent.{but_header, but_header_notes, check_lines, goto_lines, goto_notes, goto_row_notes, goto_rows, header_notes, header_parts, location_lines, loop_lines, loop_notes, loop_part, return_row, shift_holes, shift_part, trial_row};
-ghost use Rattle.lp_build.specs.Built.{leaf_if, text_if, text_rows};
+ghost use Rattle.lp_build.specs.Built.{AddsBelow, leaf_if, text_if, text_rows};
 ghost use Rattle.lp_tree.specs.ProgramTree.{all_notes, head, head_notes, items, leaf, lines_note, notes_below, parts_below, unnoted};
 
 use super::{add_if, add_next, add_numbers, add_text, bare, note_lines, text_row};
+use crate::rows::{Row, add_rows};
 use lp_form::Part;
 use lp_tree::piece::{Name, Piece};
 use lp_tree::tree::{Node, Reduced};
@@ -38,6 +39,21 @@ pub struct ReturnVariant<'t> {
     pub contents: Piece<'t>,
 }
 
+impl<'t> Row<'t> for ReturnVariant<'t> {
+    ghost use Rattle.lp_build.specs.Ascent.{return_row};
+
+    ghost line = { return_row };
+
+    fn into_node(self, alloc: Global) -> Result<Node<'t>, AllocError> {
+        let ReturnVariant {
+            nonterminal,
+            contents,
+        } = self;
+        let holes = vec![in alloc; nonterminal, contents]?;
+        Node::leaf(alloc, Part::ReturnRow, holes)
+    }
+}
+
 /// Form 35: what a state function answers: type parameters and clauses, each joined by `, `, and
 /// the variants.
 pub fn return_enum<'t>(
@@ -52,17 +68,7 @@ pub fn return_enum<'t>(
 {
     let mut node = text_row(alloc, Part::ReturnEnum, type_parameters)?;
     add_text(alloc, &mut node, Part::WhereLine, clauses)?;
-    for variant in variants {
-        let ReturnVariant {
-            nonterminal,
-            contents,
-        } = variant;
-        node.add(Node::leaf(
-            alloc,
-            Part::ReturnRow,
-            vec![in alloc; nonterminal, contents]?,
-        )?)?;
-    }
+    add_rows(alloc, &mut node, variants)?;
     Ok(node)
 }
 
@@ -103,11 +109,8 @@ fn add_by_header<'t>(
     rest: &mut Node<'t>,
     children: Vec<Node<'t>>,
 ) -> Result<(), AllocError>
-    ensures head { head node.new ≡ head node.old }
-    ensures below { OnOk result (parts_below node.new ≡ parts_below node.old ++ flat_map header_parts children.entry.items) }
+    ensures added { OnOk result (AddsBelow node.old node.new (flat_map header_parts children.entry.items) (flat_map header_notes children.entry.items)) }
     ensures rest { OnOk result (parts_below rest.new ≡ parts_below rest.old ++ flat_map but_header children.entry.items) }
-    ensures notes { head_notes node.new ≡ head_notes node.old }
-    ensures notes_below { OnOk result (notes_below node.new ≡ notes_below node.old ++ flat_map header_notes children.entry.items) }
     ensures rest_notes { OnOk result (notes_below rest.new ≡ notes_below rest.old ++ flat_map but_header_notes children.entry.items) }
 {
     for child in children {
@@ -122,18 +125,16 @@ fn add_header_or_rest<'t>(
     rest: &mut Node<'t>,
     child: Node<'t>,
 ) -> Result<(), AllocError>
-    ensures head { head node.new ≡ head node.old }
-    ensures below { OnOk result (parts_below node.new ≡ parts_below node.old ++ header_parts child.entry) }
+    ensures added { OnOk result (AddsBelow node.old node.new (header_parts child.entry) (header_notes child.entry)) }
     ensures rest { OnOk result (parts_below rest.new ≡ parts_below rest.old ++ but_header child.entry) }
-    ensures notes { head_notes node.new ≡ head_notes node.old }
-    ensures notes_below { OnOk result (notes_below node.new ≡ notes_below node.old ++ header_notes child.entry) }
     ensures rest_notes { OnOk result (notes_below rest.new ≡ notes_below rest.old ++ but_header_notes child.entry) }
 {
     if child.is(Part::HeaderState) {
-        node.add(child)
+        node.add(child)?;
     } else {
-        rest.add(child)
+        rest.add(child)?;
     }
+    Ok(())
 }
 
 /// Form 37: a shift: the pattern, the number of the symbol, and the names of the captures joined by
@@ -256,15 +257,12 @@ fn add_check<'t>(
     node: &mut Node<'t>,
     optional_top: Option<u64>,
 ) -> Result<(), AllocError>
-    ensures head { head node.new ≡ head node.old }
-    ensures below { OnOk result (parts_below node.new ≡ parts_below node.old ++ check_lines optional_top) }
-    ensures notes { head_notes node.new ≡ head_notes node.old }
-    ensures notes_below { OnOk result (notes_below node.new ≡ notes_below node.old ++ unnoted (check_lines optional_top)) }
+    ensures { OnOk result (AddsBelow node.old node.new (check_lines optional_top) (unnoted (check_lines optional_top))) }
 {
-    match optional_top {
-        None => Ok(()),
-        Some(slot) => node.add(text_row(alloc, Part::EmptyCheck, Piece::number(alloc, slot)?)?),
+    if let Some(slot) = optional_top {
+        node.add(text_row(alloc, Part::EmptyCheck, Piece::number(alloc, slot)?)?)?;
     }
+    Ok(())
 }
 
 /// Puts the arms below the node, each with the next transition.
@@ -274,10 +272,7 @@ fn add_gotos<'t>(
     arms: Vec<GotoLoopArm<'t>>,
     mut transitions: VecDeque<Node<'t>>,
 ) -> Result<(), AllocError>
-    ensures head { head node.new ≡ head node.old }
-    ensures below { OnOk result (parts_below node.new ≡ parts_below node.old ++ goto_rows arms.entry.items transitions.entry.items) }
-    ensures notes { head_notes node.new ≡ head_notes node.old }
-    ensures notes_below { OnOk result (notes_below node.new ≡ notes_below node.old ++ goto_row_notes arms.entry.items transitions.entry.items) }
+    ensures { OnOk result (AddsBelow node.old node.new (goto_rows arms.entry.items transitions.entry.items) (goto_row_notes arms.entry.items transitions.entry.items)) }
 {
     for arm in arms {
         node.add(goto_arm(alloc, arm, &mut transitions)?)?;

@@ -2,11 +2,12 @@
 
 ghost use Rattle.std.specs.Prelude.{◌≡◌, ◌<◌, ◌≤◌, [], ◌∷◌, ◌++◌, length, map, not, IfOk, IfSome, OnOk, if◌then◌else◌};
 ghost use Rattle.std.specs.List.{flat_map, list_any, position};
-ghost use Rattle.lp_build.specs.Built.{over};
+ghost use Rattle.lp_build.specs.Built.{AddsBelow, over};
 ghost use Rattle.lp_build.specs.Frame.{hole_if, intern_row, is_before_items, item_list, item_list_notes, items_part, items_place, module_lines, module_notes, triple_holes, triple_part, white_space};
 ghost use Rattle.lp_tree.specs.ProgramTree.{all_notes, head, head_notes, items, leaf, notes_below, parts_below, program_items, program_notes, unnoted};
 
 use super::{add_if, add_text, bare, text_row};
+use crate::rows::{Row, add_rows};
 use lp_form::Part;
 use lp_tree::piece::{Name, Piece};
 use lp_tree::tree::{Node, Program, push_node};
@@ -106,10 +107,7 @@ fn is_before_items(node: &Node<'_>) -> bool
 
 /// Puts the items of a module below the node as one list, if there are some.
 fn add_items<'t>(alloc: Global, node: &mut Node<'t>, nodes: Vec<Node<'t>>) -> Result<(), AllocError>
-    ensures head { head node.new ≡ head node.old }
-    ensures below { OnOk result (parts_below node.new ≡ parts_below node.old ++ item_list nodes.entry.items) }
-    ensures notes { head_notes node.new ≡ head_notes node.old }
-    ensures notes_below { OnOk result (notes_below node.new ≡ notes_below node.old ++ item_list_notes nodes.entry.items) }
+    ensures { OnOk result (AddsBelow node.old node.new (item_list nodes.entry.items) (item_list_notes nodes.entry.items)) }
 {
     if nodes.is_empty() {
         return Ok(());
@@ -117,7 +115,8 @@ fn add_items<'t>(alloc: Global, node: &mut Node<'t>, nodes: Vec<Node<'t>>) -> Re
     let part = items_part(nodes.as_slice());
     let mut list = bare(alloc, part)?;
     list.add_all(nodes)?;
-    node.add(list)
+    node.add(list)?;
+    Ok(())
 }
 
 /// The items of table-driven code, which begin with a symbol enum, or of recursive ascent.
@@ -173,6 +172,22 @@ pub struct InternEntry<'t> {
     pub skip: bool,
 }
 
+impl<'t> Row<'t> for InternEntry<'t> {
+    ghost use Rattle.lp_build.specs.Frame.{intern_row};
+
+    ghost line = { intern_row };
+
+    fn into_node(self, alloc: Global) -> Result<Node<'t>, AllocError> {
+        let InternEntry { literal, skip } = self;
+        let part = if skip {
+            Part::InternSkip
+        } else {
+            Part::InternKeep
+        };
+        text_row(alloc, part, literal)
+    }
+}
+
 /// Form 43: the tokens of an interned grammar. White space is skipped where no entry is. Below it:
 /// uses and the standard uses.
 pub fn token_module<'t>(
@@ -187,7 +202,7 @@ pub fn token_module<'t>(
     let mut node = bare(alloc, Part::TokenModule)?;
     node.add_all(below)?;
     let skips = skips_some(entries.as_slice());
-    add_entries(alloc, &mut node, entries)?;
+    add_rows(alloc, &mut node, entries)?;
     add_if(alloc, &mut node, !skips, Part::WhitespaceRow)?;
     Ok(node)
 }
@@ -197,29 +212,6 @@ fn skips_some(entries: &[InternEntry<'_>]) -> bool
     ensures { result ≡ list_any (λ e. e.skip) entries.now }
 {
     entries.iter().any(|entry| entry.skip)
-}
-
-/// Puts the regular expressions below the node.
-fn add_entries<'t>(
-    alloc: Global,
-    node: &mut Node<'t>,
-    entries: Vec<InternEntry<'t>>,
-) -> Result<(), AllocError>
-    ensures head { head node.new ≡ head node.old }
-    ensures below { OnOk result (parts_below node.new ≡ parts_below node.old ++ map intern_row entries.entry.items) }
-    ensures notes { head_notes node.new ≡ head_notes node.old }
-    ensures notes_below { OnOk result (notes_below node.new ≡ notes_below node.old ++ unnoted (map intern_row entries.entry.items)) }
-{
-    for entry in entries {
-        let InternEntry { literal, skip } = entry;
-        let part = if skip {
-            Part::InternSkip
-        } else {
-            Part::InternKeep
-        };
-        node.add(text_row(alloc, part, literal)?)?;
-    }
-    Ok(())
 }
 
 /// What the two implementations of `to_triple` are for.

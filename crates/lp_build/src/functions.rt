@@ -2,7 +2,7 @@
 
 ghost use Rattle.std.specs.Prelude.{◌≡◌, [], ◌∷◌, ◌++◌, IfOk, OnOk, if◌then◌else◌};
 ghost use Rattle.std.specs.List.{flat_map, list_any};
-ghost use Rattle.lp_build.specs.Built.{text_rows};
+ghost use Rattle.lp_build.specs.Built.{AddsBelow, text_rows};
 ghost use Rattle.lp_build.specs.Functions.{clause_lines, name_holes, name_part, parser_part, result_line};
 ghost use Rattle.lp_tree.specs.ProgramTree.{all_notes, head, head_notes, is_part, items, leaf, notes_below, parts_below, unnoted};
 
@@ -98,17 +98,15 @@ fn add_clauses<'t>(
     node: &mut Node<'t>,
     clauses: Vec<Piece<'t>>,
 ) -> Result<(), AllocError>
-    ensures head { head node.new ≡ head node.old }
-    ensures below { OnOk result (parts_below node.new ≡ parts_below node.old ++ clause_lines clauses.entry.items) }
-    ensures notes { head_notes node.new ≡ head_notes node.old }
-    ensures notes_below { OnOk result (notes_below node.new ≡ notes_below node.old ++ unnoted (clause_lines clauses.entry.items)) }
+    ensures { OnOk result (AddsBelow node.old node.new (clause_lines clauses.entry.items) (unnoted (clause_lines clauses.entry.items))) }
 {
     if clauses.is_empty() {
         return Ok(());
     }
     let mut list = bare(alloc, Part::Clauses)?;
     add_texts(alloc, &mut list, Part::ClauseRow, clauses)?;
-    node.add(list)
+    node.add(list)?;
+    Ok(())
 }
 
 /// Form 9: a parser: the visibility of its rule, its public name, and whether the grammar is

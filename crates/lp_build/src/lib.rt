@@ -9,13 +9,14 @@ mod frame;
 mod functions;
 mod machine;
 mod reductions;
+mod rows;
 mod table;
 
 ghost use Rattle.std.specs.Prelude.{◌≡◌, [], ◌∷◌, ◌++◌, map, drop, codes, string_bytes, IfOk, OnOk};
 ghost use Rattle.std.specs.Fmt.{decimal};
 ghost use Rattle.std.specs.List.{flat_map};
 ghost use Rattle.lp_tree.specs.ProgramTree.{all_notes, head, head_notes, items, leaf, lines_note, notes_below, parts_below, unnoted};
-ghost use Rattle.lp_build.specs.Built.{barred, first_notes, first_parts, leaf_if, text_if, text_rows, with_line};
+ghost use Rattle.lp_build.specs.Built.{AddsBelow, barred, first_notes, first_parts, leaf_if, text_if, text_rows, with_line};
 
 pub use action::{ActionBody, InlineCall, InlineSpan, OuterCall, action_fn};
 pub use ascent::{
@@ -64,10 +65,7 @@ fn add_texts<'t>(
     part: Part,
     texts: Vec<Piece<'t>>,
 ) -> Result<(), AllocError>
-    ensures head { head node.new ≡ head node.old }
-    ensures below { OnOk result (parts_below node.new ≡ parts_below node.old ++ text_rows part texts.entry.items) }
-    ensures notes { head_notes node.new ≡ head_notes node.old }
-    ensures notes_below { OnOk result (notes_below node.new ≡ notes_below node.old ++ unnoted (text_rows part texts.entry.items)) }
+    ensures { OnOk result (AddsBelow node.old node.new (text_rows part texts.entry.items) (unnoted (text_rows part texts.entry.items))) }
 {
     for text in texts {
         node.add(text_row(alloc, part, text)?)?;
@@ -82,10 +80,7 @@ fn add_names<'t>(
     part: Part,
     names: Vec<Name<'t>>,
 ) -> Result<(), AllocError>
-    ensures head { head node.new ≡ head node.old }
-    ensures below { OnOk result (parts_below node.new ≡ parts_below node.old ++ text_rows part names.entry.items) }
-    ensures notes { head_notes node.new ≡ head_notes node.old }
-    ensures notes_below { OnOk result (notes_below node.new ≡ notes_below node.old ++ unnoted (text_rows part names.entry.items)) }
+    ensures { OnOk result (AddsBelow node.old node.new (text_rows part names.entry.items) (unnoted (text_rows part names.entry.items))) }
 {
     for name in names {
         node.add(text_row(alloc, part, name.into_piece())?)?;
@@ -100,10 +95,7 @@ fn add_numbers<'t>(
     part: Part,
     numbers: &[u64],
 ) -> Result<(), AllocError>
-    ensures head { head node.new ≡ head node.old }
-    ensures below { OnOk result (parts_below node.new ≡ parts_below node.old ++ text_rows part (map decimal numbers.now)) }
-    ensures notes { head_notes node.new ≡ head_notes node.old }
-    ensures notes_below { OnOk result (notes_below node.new ≡ notes_below node.old ++ unnoted (text_rows part (map decimal numbers.now))) }
+    ensures { OnOk result (AddsBelow node.old node.new (text_rows part (map decimal numbers.now)) (unnoted (text_rows part (map decimal numbers.now)))) }
 {
     for number in numbers {
         node.add(text_row(alloc, part, Piece::number(alloc, *number)?)?)?;
@@ -128,23 +120,17 @@ fn add_text<'t>(
     part: Part,
     text: Option<Piece<'t>>,
 ) -> Result<(), AllocError>
-    ensures head { head node.new ≡ head node.old }
-    ensures below { OnOk result (parts_below node.new ≡ parts_below node.old ++ text_if part text.entry) }
-    ensures notes { head_notes node.new ≡ head_notes node.old }
-    ensures notes_below { OnOk result (notes_below node.new ≡ notes_below node.old ++ unnoted (text_if part text.entry)) }
+    ensures { OnOk result (AddsBelow node.old node.new (text_if part text.entry) (unnoted (text_if part text.entry))) }
 {
-    match text {
-        None => Ok(()),
-        Some(text) => node.add(text_row(alloc, part, text)?),
+    if let Some(text) = text {
+        node.add(text_row(alloc, part, text)?)?;
     }
+    Ok(())
 }
 
 /// Puts a part with nothing in it below the node, if it is asked for.
 fn add_if<'t>(alloc: Global, node: &mut Node<'t>, asked: bool, part: Part) -> Result<(), AllocError>
-    ensures head { head node.new ≡ head node.old }
-    ensures below { OnOk result (parts_below node.new ≡ parts_below node.old ++ leaf_if asked part) }
-    ensures notes { head_notes node.new ≡ head_notes node.old }
-    ensures notes_below { OnOk result (notes_below node.new ≡ notes_below node.old ++ unnoted (leaf_if asked part)) }
+    ensures { OnOk result (AddsBelow node.old node.new (leaf_if asked part) (unnoted (leaf_if asked part))) }
 {
     if asked {
         node.add(bare(alloc, part)?)?;
@@ -155,16 +141,13 @@ fn add_if<'t>(alloc: Global, node: &mut Node<'t>, asked: bool, part: Part) -> Re
 /// Takes the first of the nodes, if there is one, and puts it below the node.
 #[tactic(auto, using(std::proofs::lemmas::Grind::common_steps, crate::proofs::Nodes::first_parts_none, crate::proofs::Nodes::first_notes_none))]
 fn add_next<'t>(node: &mut Node<'t>, nodes: &mut VecDeque<Node<'t>>) -> Result<(), AllocError>
-    ensures head { head node.new ≡ head node.old }
-    ensures below { OnOk result (parts_below node.new ≡ parts_below node.old ++ first_parts nodes.old.items) }
+    ensures added { OnOk result (AddsBelow node.old node.new (first_parts nodes.old.items) (first_notes nodes.old.items)) }
     ensures left { nodes.new.items ≡ drop 1 nodes.old.items }
-    ensures notes { head_notes node.new ≡ head_notes node.old }
-    ensures notes_below { OnOk result (notes_below node.new ≡ notes_below node.old ++ first_notes nodes.old.items) }
 {
-    match nodes.pop_front() {
-        None => Ok(()),
-        Some(next) => node.add(next),
+    if let Some(next) = nodes.pop_front() {
+        node.add(next)?;
     }
+    Ok(())
 }
 
 /// Gives the node comment lines.

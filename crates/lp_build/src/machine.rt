@@ -7,6 +7,7 @@ ghost use Rattle.lp_build.specs.Machine.{field_row, last_terminal, recovery_line
 ghost use Rattle.lp_tree.specs.ProgramTree.{all_notes, head, items, parts_below, unnoted};
 
 use super::{add_names, bare, note_if, text_row};
+use crate::rows::{Row, add_rows};
 use lp_form::Part;
 use lp_tree::piece::{Name, Piece};
 use lp_tree::tree::{Node, Reduced};
@@ -18,6 +19,18 @@ use std::borrow::CowStr;
 pub struct Field<'t> {
     pub name: Name<'t>,
     pub ty: Piece<'t>,
+}
+
+impl<'t> Row<'t> for Field<'t> {
+    ghost use Rattle.lp_build.specs.Machine.{field_row};
+
+    ghost line = { field_row };
+
+    fn into_node(self, alloc: Global) -> Result<Node<'t>, AllocError> {
+        let Field { name, ty } = self;
+        let holes = vec![in alloc; name.into_piece(), ty]?;
+        Node::leaf(alloc, Part::FieldRow, holes)
+    }
 }
 
 /// Form 21: the struct that the driver asks: type parameters and clauses, each joined by `, `, its
@@ -35,14 +48,7 @@ pub fn machine_struct<'t>(
 {
     let holes = vec![in alloc; type_parameters, clauses, phantom]?;
     let mut node = Node::leaf(alloc, Part::MachineStruct, holes)?;
-    for field in fields {
-        let Field { name, ty } = field;
-        node.add(Node::leaf(
-            alloc,
-            Part::FieldRow,
-            vec![in alloc; name.into_piece(), ty]?,
-        )?)?;
-    }
+    add_rows(alloc, &mut node, fields)?;
     Ok(node)
 }
 

@@ -2,7 +2,7 @@
 
 ghost use Rattle.std.specs.Prelude.{◌≡◌, [], ◌∷◌, ◌++◌, length, IfOk, OnOk};
 ghost use Rattle.std.specs.List.{flat_map};
-ghost use Rattle.lp_build.specs.Built.{text_if, text_rows, with_line};
+ghost use Rattle.lp_build.specs.Built.{AddsBelow, text_if, text_rows, with_line};
 ghost use Rattle.lp_build.specs.Reductions.{all_arm_notes, all_arms, arm_lines, arm_notes, assert_lines, bodies_after, body_in, but_body, but_body_notes, call_of, outcome_of, pop_lines, span_of};
 ghost use Rattle.lp_tree.specs.ProgramTree.{all_notes, head, head_notes, items, leaf, notes_below, parts_below, unnoted};
 
@@ -35,11 +35,8 @@ fn add_arm<'t>(
     arm: ReduceArm<'t>,
     bodies: &mut VecDeque<Node<'t>>,
 ) -> Result<(), AllocError>
-    ensures head { head node.new ≡ head node.old }
-    ensures below { OnOk result (parts_below node.new ≡ parts_below node.old ++ arm_lines arm.entry bodies.old.items) }
+    ensures added { OnOk result (AddsBelow node.old node.new (arm_lines arm.entry bodies.old.items) (arm_notes arm.entry bodies.old.items)) }
     ensures left { OnOk result (bodies.new.items ≡ bodies_after arm.entry bodies.old.items) }
-    ensures notes { head_notes node.new ≡ head_notes node.old }
-    ensures notes_below { OnOk result (notes_below node.new ≡ notes_below node.old ++ arm_notes arm.entry bodies.old.items) }
 {
     let ReduceArm { production, call } = arm;
     let production = Piece::number(alloc, production)?;
@@ -47,14 +44,15 @@ fn add_arm<'t>(
         Some(call) => {
             let ReduceCall { arguments, phantom } = call;
             let holes = vec![in alloc; production, arguments, phantom]?;
-            node.add(Node::leaf(alloc, Part::ReduceCallArm, holes)?)
+            node.add(Node::leaf(alloc, Part::ReduceCallArm, holes)?)?;
         }
         None => {
             let mut row = text_row(alloc, Part::ReduceBodyArm, production)?;
             add_next(&mut row, bodies)?;
-            node.add(row)
+            node.add(row)?;
         }
     }
+    Ok(())
 }
 
 /// Puts the arms below the node, and then the bodies that they leave.
@@ -64,15 +62,13 @@ fn add_arms<'t>(
     arms: Vec<ReduceArm<'t>>,
     mut bodies: VecDeque<Node<'t>>,
 ) -> Result<(), AllocError>
-    ensures head { head node.new ≡ head node.old }
-    ensures below { OnOk result (parts_below node.new ≡ parts_below node.old ++ all_arms arms.entry.items bodies.entry.items) }
-    ensures notes { head_notes node.new ≡ head_notes node.old }
-    ensures notes_below { OnOk result (notes_below node.new ≡ notes_below node.old ++ all_arm_notes arms.entry.items bodies.entry.items) }
+    ensures { OnOk result (AddsBelow node.old node.new (all_arms arms.entry.items bodies.entry.items) (all_arm_notes arms.entry.items bodies.entry.items)) }
 {
     for arm in arms {
         add_arm(alloc, node, arm, &mut bodies)?;
     }
-    node.add_all(Vec::from(bodies))
+    node.add_all(Vec::from(bodies))?;
+    Ok(())
 }
 
 /// Puts a node below the first one, or a body behind the bodies.
@@ -81,18 +77,15 @@ fn add_or_keep<'t>(
     bodies: &mut Vec<Node<'t>>,
     child: Node<'t>,
 ) -> Result<(), AllocError>
-    ensures head { head node.new ≡ head node.old }
-    ensures below { OnOk result (parts_below node.new ≡ parts_below node.old ++ but_body child.entry) }
+    ensures added { OnOk result (AddsBelow node.old node.new (but_body child.entry) (but_body_notes child.entry)) }
     ensures bodies { OnOk result (bodies.new.items ≡ bodies.old.items ++ body_in child.entry) }
-    ensures notes { head_notes node.new ≡ head_notes node.old }
-    ensures notes_below { OnOk result (notes_below node.new ≡ notes_below node.old ++ but_body_notes child.entry) }
 {
     if child.is(Part::ReduceBody) {
         bodies.push(child)?;
-        Ok(())
     } else {
-        node.add(child)
+        node.add(child)?;
     }
+    Ok(())
 }
 
 /// Puts all nodes but the bodies below the node, and answers the bodies.
@@ -101,11 +94,8 @@ fn add_but_bodies<'t>(
     node: &mut Node<'t>,
     children: Vec<Node<'t>>,
 ) -> Result<Vec<Node<'t>>, AllocError>
-    ensures head { head node.new ≡ head node.old }
-    ensures below { OnOk result (parts_below node.new ≡ parts_below node.old ++ flat_map but_body children.entry.items) }
+    ensures added { OnOk result (AddsBelow node.old node.new (flat_map but_body children.entry.items) (flat_map but_body_notes children.entry.items)) }
     ensures bodies { IfOk result (λ v. v.items ≡ flat_map body_in children.entry.items) }
-    ensures notes { head_notes node.new ≡ head_notes node.old }
-    ensures notes_below { OnOk result (notes_below node.new ≡ notes_below node.old ++ flat_map but_body_notes children.entry.items) }
 {
     let mut bodies = Vec::new(alloc);
     for child in children {
@@ -140,10 +130,7 @@ pub struct Produced<'t> {
 
 /// Puts the line below the node that asserts the number of symbols, where there are several.
 fn add_assert<'t>(alloc: Global, node: &mut Node<'t>, symbols: usize) -> Result<(), AllocError>
-    ensures head { head node.new ≡ head node.old }
-    ensures below { OnOk result (parts_below node.new ≡ parts_below node.old ++ assert_lines symbols) }
-    ensures notes { head_notes node.new ≡ head_notes node.old }
-    ensures notes_below { OnOk result (notes_below node.new ≡ notes_below node.old ++ unnoted (assert_lines symbols)) }
+    ensures { OnOk result (AddsBelow node.old node.new (assert_lines symbols) (unnoted (assert_lines symbols))) }
 {
     if symbols > 1 {
         let count = Piece::number(alloc, symbols as u64)?;
@@ -159,10 +146,7 @@ fn add_pops<'t>(
     node: &mut Node<'t>,
     mut variants: Vec<Name<'t>>,
 ) -> Result<(), AllocError>
-    ensures head { head node.new ≡ head node.old }
-    ensures below { OnOk result (parts_below node.new ≡ parts_below node.old ++ pop_lines 0 variants.entry.items) }
-    ensures notes { head_notes node.new ≡ head_notes node.old }
-    ensures notes_below { OnOk result (notes_below node.new ≡ notes_below node.old ++ unnoted (pop_lines 0 variants.entry.items)) }
+    ensures { OnOk result (AddsBelow node.old node.new (pop_lines 0 variants.entry.items) (unnoted (pop_lines 0 variants.entry.items))) }
 {
     while let Some(variant) = variants.pop() {
         let number = Piece::number(alloc, variants.len() as u64)?;

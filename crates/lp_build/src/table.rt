@@ -8,6 +8,7 @@ ghost use Rattle.lp_build.specs.Tables.{goto_note, goto_row, integer_row, range_
 ghost use Rattle.lp_tree.specs.ProgramTree.{all_notes, head, items, leaf, noted, parts_below, unnoted};
 
 use super::{add_text, add_texts, bare, barred, note_if, text_row};
+use crate::rows::{Row, add_rows};
 use lp_form::Part;
 use lp_tree::piece::{Name, Piece};
 use lp_tree::tree::{Node, RowNote};
@@ -19,6 +20,18 @@ use std::borrow::CowStr;
 pub struct Variant<'t> {
     pub name: Name<'t>,
     pub ty: Piece<'t>,
+}
+
+impl<'t> Row<'t> for Variant<'t> {
+    ghost use Rattle.lp_build.specs.Tables.{variant_row};
+
+    ghost line = { variant_row };
+
+    fn into_node(self, alloc: Global) -> Result<Node<'t>, AllocError> {
+        let Variant { name, ty } = self;
+        let holes = vec![in alloc; name.into_piece(), ty]?;
+        Node::leaf(alloc, Part::VariantRow, holes)
+    }
 }
 
 /// Form 11: the values of symbols: type parameters joined by `, `, clauses joined by `, `, variants.
@@ -34,14 +47,7 @@ pub fn symbol_enum<'t>(
 {
     let mut node = text_row(alloc, Part::SymbolEnum, type_parameters)?;
     add_text(alloc, &mut node, Part::WhereLine, clauses)?;
-    for variant in variants {
-        let Variant { name, ty } = variant;
-        node.add(Node::leaf(
-            alloc,
-            Part::VariantRow,
-            vec![in alloc; name.into_piece(), ty]?,
-        )?)?;
-    }
+    add_rows(alloc, &mut node, variants)?;
     Ok(node)
 }
 
@@ -260,6 +266,19 @@ pub struct IntegerArm<'t> {
     pub terminal: u64,
 }
 
+impl<'t> Row<'t> for IntegerArm<'t> {
+    ghost use Rattle.lp_build.specs.Tables.{integer_row};
+
+    ghost line = { integer_row };
+
+    fn into_node(self, alloc: Global) -> Result<Node<'t>, AllocError> {
+        let IntegerArm { pattern, terminal } = self;
+        let terminal = Piece::number(alloc, terminal)?;
+        let holes = vec![in alloc; pattern, terminal]?;
+        Node::leaf(alloc, Part::IntegerRow, holes)
+    }
+}
+
 /// Form 23: the number of a token. Below it: the header.
 pub fn token_to_integer<'t>(
     alloc: Global,
@@ -272,11 +291,7 @@ pub fn token_to_integer<'t>(
 {
     let mut node = bare(alloc, Part::TokenToInteger)?;
     node.add_all(below)?;
-    for arm in arms {
-        let IntegerArm { pattern, terminal } = arm;
-        let terminal = Piece::number(alloc, terminal)?;
-        node.add(Node::leaf(alloc, Part::IntegerRow, vec![in alloc; pattern, terminal]?)?)?;
-    }
+    add_rows(alloc, &mut node, arms)?;
     Ok(node)
 }
 

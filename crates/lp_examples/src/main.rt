@@ -1,89 +1,109 @@
-//! The examples: what the program writes of each grammar file is what is stored beside it.
+//! Examples and worked calls.
 //!
-//! Of `NAME.lp`, the parser text is `NAME.rs`, and the blocks of its token lines are `NAME.run`.
+//! - Of each grammar file `NAME.lp` of `data`, the parser text that the program writes is `NAME.rs`, and the blocks of
+//!   its token lines are `NAME.run`.
+//! - What each call of the folder `calls` answers and prints is what is stored with it: runs, refusals, generated
+//!   grammars, the calls that print parsers or parts of them, checks of grammars, tables and texts, and hostile use,
+//!   by grammars, states, sources and sinks that are broken. `cases` says how calls are written down, and `calls` what
+//!   their words are.
 #![tactic(auto)]
 
-use lp_repr::Text;
-use lp_tool::{Status, run_tool, status_line};
-use lp_write::{MemorySink, MemorySource};
-use std::alloc::Global;
+mod answers;
+mod calls;
+mod cases;
+mod changes;
+mod compare;
+mod emission;
+mod parts;
+mod printing;
+mod runs;
+mod sinks;
+mod tool;
+mod writers;
+
+use crate::calls::answer_of;
+use crate::cases::read_cases;
+use crate::compare::{compared, verdict};
+use crate::tool::run_words;
 use std::rt::Files;
 use std::{fs, io};
 
 /// The examples, by name.
-const NAMES: [&str; 13] = [
+const EXAMPLES: [&str; 19] = [
     "bare_terminals",
     "calculator",
     "captures",
     "fallible",
+    "infallible_result",
+    "infallible_result_by_ascent",
     "inlines",
     "lookarounds",
     "no_location",
     "one_rule",
     "parameters",
     "parens",
+    "quote_marks",
+    "quote_marks_by_ascent",
+    "quoted_patterns",
+    "quoted_patterns_by_ascent",
     "recovery",
     "recursive_ascent",
     "starts",
 ];
 
-/// More bytes than any example writes.
-const ROOM: usize = 1_000_000;
+/// The files of calls, by name.
+const CALLS: [&str; 19] = [
+    "runs",
+    "ascent",
+    "budgets",
+    "budgets_small",
+    "budgets_ascent",
+    "recovery",
+    "refused_files",
+    "texts",
+    "generated",
+    "changed",
+    "parsers",
+    "modules",
+    "actions",
+    "parameters",
+    "hostile",
+    "refusals",
+    "lookaheads",
+    "checks",
+    "sound",
+];
 
 fn main(rt: HostRuntime) -> io::Result<()> {
-    for name in NAMES {
+    for name in EXAMPLES {
         let line = example(&rt, name)?;
         rt.println(line.as_str())?;
+    }
+    for name in CALLS {
+        make_calls(&rt, name)?;
     }
     Ok(())
 }
 
-/// How the example's output compares with what is stored.
+/// Whether what is written of an example is what is stored.
 fn example<R: Files + AllocGlobal>(rt: &R, name: &str) -> io::Result<String> {
     let alloc = rt.alloc();
     let file = fs::read(rt, format!(in alloc; "{name}.lp")?.as_str())?;
-    let stored = stored_output(rt, name)?;
-    let (status, output) = output_of(alloc, file)?;
-    if let Status::Done = status {
-        return Ok(compared(alloc, name, output.as_slice(), stored.as_bytes())?);
-    }
-    let line = status_line(&status);
-    Ok(format!(in alloc; "{name}: {line}")?)
-}
-
-/// The stored text, the line `---`, and the stored blocks.
-fn stored_output<R: Files + AllocGlobal>(rt: &R, name: &str) -> io::Result<String> {
-    let alloc = rt.alloc();
-    let mut stored = fs::read_to_string(rt, format!(in alloc; "{name}.rs")?.as_str())?;
+    let text = fs::read_to_string(rt, format!(in alloc; "{name}.rs")?.as_str())?;
     let blocks = fs::read_to_string(rt, format!(in alloc; "{name}.run")?.as_str())?;
-    stored.push_str("---\n")?;
-    stored.push_str(blocks.as_str())?;
-    Ok(stored)
+    let stored = format!(in alloc; "{text}---\n{blocks}")?;
+    let answer = run_words(alloc, "run", file.as_slice())?;
+    Ok(compared(alloc, name, &answer, stored.as_str())?)
 }
 
-/// The status of `run` on a grammar file, and what it writes.
-fn output_of(alloc: Global, file: Vec<u8>) -> io::Result<(Status, Vec<u8>)> {
-    let mut words = Vec::new(alloc);
-    words.push(Text::from_str(alloc, "run")?)?;
-    let mut source = MemorySource::new(file, 4096, Vec::new(alloc));
-    let mut sink = MemorySink::new(alloc, ROOM, 65_536, Vec::new(alloc))?;
-    let report = run_tool(alloc, words.as_slice(), &mut source, &mut sink);
-    Ok((report.status, sink.into_bytes()))
-}
-
-/// `as stored`, or the first byte that differs, counted from 0.
-fn compared(alloc: Global, name: &str, output: &[u8], stored: &[u8]) -> io::Result<String> {
-    if output == stored {
-        return Ok(format!(in alloc; "{name}: as stored")?);
+/// Makes the calls of a file, and prints a line for each.
+fn make_calls(rt: &(impl Files + Print + AllocGlobal), name: &str) -> io::Result<()> {
+    let alloc = rt.alloc();
+    let text = fs::read_to_string(rt, format!(in alloc; "calls/{name}.txt")?.as_str())?;
+    for case in read_cases(alloc, text.as_str())?.as_slice() {
+        let answer = answer_of(alloc, case)?;
+        let line = verdict(alloc, case, &answer)?;
+        rt.println(line.as_str())?;
     }
-    let place = first_difference(output, stored);
-    Ok(format!(in alloc; "{name}: differs at byte {place}")?)
-}
-
-fn first_difference(output: &[u8], stored: &[u8]) -> usize {
-    output
-        .iter()
-        .zip(stored)
-        .take_while(|(o, s)| o == s)
-        .count()
+    Ok(())
 }

@@ -16,10 +16,15 @@ pub mod Steps
 pub mod Leveling
 pub mod Indents
 pub mod Whole
+pub mod Sharing
+pub mod Apart
+pub mod Laid
+pub mod LaidReads
 pub mod Levelled
 pub mod Returning
 pub mod Endings
 pub mod Filling
 pub mod Law
+pub mod Printing
 pub mod Existing
 pub mod Examples

@@ -1,5 +1,5 @@
 -- What the laws say: printed lines, tables and programs are read as what they were.
-use Rattle.std.specs.Prelude.{◌≡◌, ℕ, ℤ, ◌^◌, ◌<◌, Bool, true, List, ◌∷◌, ◌++◌, length, replicate, codes, All, Some, None, FitsSigned}
+use Rattle.std.specs.Prelude.{◌≡◌, ◌↔◌, ℕ, ℤ, ◌^◌, ◌<◌, Bool, true, List, ◌∷◌, ◌++◌, length, replicate, codes, All, Some, None, FitsSigned}
 use Rattle.std.specs.Int.{w32}
 use Rattle.std.specs.Str.{IsUtf8}
 use Rattle.lp_form.specs.declared.template.Kind.TheVariants as kind
@@ -20,6 +20,7 @@ use Rattle.lp_laws.specs.LineTexts.{Counts, text_in}
 use Rattle.lp_laws.specs.WellFormed.{IsUseText, IsCodeText, IsTrailing, IsNote, IsWellFormed}
 use Rattle.lp_repr.specs.NormalCode.{norm_of}
 use Rattle.lp_laws.specs.AsRead.{code_read, IsRead}
+use Rattle.lp_laws.specs.Laid.{IsLaidOut}
 use Rattle.lp_laws.specs.Levels.{is_level, never_stays}
 
 -- whatever the indent, a printed line that counts is taken off the text as it is
@@ -60,6 +61,10 @@ TerminalsFill = (prefix text : List ℕ) → IsUtf8 text → AnswersTerminal tex
 -- a program that is well formed reads as it is, whatever the options
 abbrev pub ReadsBack : Type 0
 ReadsBack = (options : Options) (program read : Program) → IsWellFormed program → IsRead options.whitespace program read → ReadsAs (text_of options program) read
+
+-- a text reads as a program exactly where it is that program's lines without comments and blanks, when what doesn't count is left aside
+abbrev pub ReadsAreLines : Type 0
+ReadsAreLines = (text : List ℕ) (program : Program) → ReadsAs text program ↔ IsLaidOut text program
 
 -- its user code is printed at the indent of a function's body, and leaves it so
 abbrev pub CodeIsLevel : Type 0

@@ -5,4 +5,6 @@ pub mod LevelTests
 pub mod WellFormed
 pub mod AsRead
 pub mod Levels
+pub mod Laid
+pub mod Printing
 pub mod Laws

@@ -43,20 +43,21 @@ rules_of g = rules_from g 0 g.nonterminals.entries
 abbrev pub terminal_cmp : TerminalString → TerminalString → Ordering
 terminal_cmp = (terminal_ord.ghosts).cmp
 
--- a terminal, where it has a pattern
-abbrev pub known_by : TerminalString → Option TokenPattern → List KnownTerminal
-known_by terminal None = []
-known_by terminal (Some pattern) = record { name = terminal_text terminal; form = pattern_text pattern; captures = length pattern.holes } ∷ []
-
--- those with a pattern: all but the error terminal
-abbrev pub known_among : Grammar → List TerminalString → List KnownTerminal
-known_among g [] = []
-known_among g (terminal ∷ terminals) = known_by terminal (get terminal_cmp g.conversions terminal) ++ known_among g terminals
-
 abbrev pub is_error : TerminalString → Bool
 is_error (Quoted text) = false
 is_error (Bare name) = false
 is_error Error = true
+
+-- a terminal, where it has a pattern and is not the error terminal
+abbrev pub known_by : TerminalString → Option TokenPattern → List KnownTerminal
+known_by terminal None = []
+known_by terminal (Some pattern) =
+    if is_error terminal then [] else record { name = terminal_text terminal; form = pattern_text pattern; captures = length pattern.holes } ∷ []
+
+-- those with a pattern, without the error terminal
+abbrev pub known_among : Grammar → List TerminalString → List KnownTerminal
+known_among g [] = []
+known_among g (terminal ∷ terminals) = known_by terminal (get terminal_cmp g.conversions terminal) ++ known_among g terminals
 
 -- the number of the error terminal, where errors are mended
 abbrev pub error_of : Grammar → Option ℕ

@@ -1,6 +1,6 @@
 //! The productions and terminals of a grammar by number.
 
-ghost use Rattle.std.specs.Prelude.{◌≡◌, ◌∷◌, [], ◌++◌, map, length, position, slice_get, IfOk, Some, None, if◌then◌else◌};
+ghost use Rattle.std.specs.Prelude.{◌≡◌, ◌∷◌, [], ◌++◌, map, length, position, slice_get, IfOk, Some, None, false, if◌then◌else◌};
 ghost use Rattle.std.specs.Option.{option_copied};
 ghost use Rattle.lp_repr.specs.Names.{same_text, same_nonterminal};
 ghost use Rattle.lp_machine.specs.GrammarTables.{is_start, rule_of, rules_of, known_by, known_among, is_error, error_of, is_named, last_named, params_among};
@@ -79,6 +79,7 @@ fn known(
     terminal: &TerminalString,
     pattern: &TokenPattern,
 ) -> Result<KnownTerminal, AllocError>
+    requires { is_error terminal.now ≡ false }
     ensures { IfOk result (λ known. known ∷ [] ≡ known_by terminal.now (Some pattern.now)) }
 {
     Ok(KnownTerminal {
@@ -88,14 +89,16 @@ fn known(
     })
 }
 
-/// The terminals with a pattern, by number: all but the error terminal.
+/// The terminals with a pattern, by number, without the error terminal.
 pub fn terminals_of(alloc: Global, grammar: &Grammar) -> Result<Vec<KnownTerminal>, AllocError>
     ensures { IfOk result (λ l. l.items ≡ known_among grammar.now grammar.now.terminals.all) }
 {
     let mut terminals = Vec::new(alloc);
     for terminal in grammar.terminals.all.as_slice() {
         if let Some(pattern) = grammar.conversions.get(terminal) {
-            terminals.push(known(alloc, terminal, pattern)?)?;
+            if !is_error(terminal) {
+                terminals.push(known(alloc, terminal, pattern)?)?;
+            }
         }
     }
     Ok(terminals)

@@ -1,20 +1,12 @@
--- Patterns are parted character by character; digits at a front, and where a text may be cut after them.
-use Rattle.std.proofs.Common.{◌≡◌, ℕ, zero, suc, ◌+◌, ◌-◌, ◌<◌, ◌≤◌, true, List, [], ◌∷◌, ◌++◌, length, get_or, map, refl, ap, subst, ◌∙◌, append_assoc, Option, Some, None, arith}
+-- Digits at a front, where a text may be cut after them, and the names in a pattern.
+use Rattle.std.proofs.Common.{◌≡◌, ℕ, zero, suc, ◌+◌, ◌-◌, ◌<◌, ◌≤◌, true, List, ◌++◌, length, get_or, ap, subst, ◌∙◌, append_assoc, Option, Some, None, arith}
 use Rattle.std.specs.Char.{is_ascii_digit}
 use Rattle.std.specs.Str.{IsCharBoundary, IsUtf8}
 use Rattle.std.proofs.lemmas.Bool.Decides.{nat_tests}
 use Rattle.std.proofs.lemmas.Str.{IsCharBoundary-start, IsCharBoundary-after_ascii}
 use Rattle.std.specs.Prelude.{codes}
-use Rattle.lp_maker.specs.Patterns.{Parted, part_step, parting, after_digits, form_around, form_within}
+use Rattle.lp_maker.specs.Patterns.{after_digits, form_around, form_within}
 use Rattle.lp_maker.specs.Texts.{cut_at}
-
-pub parting_push : (p : Parted) (cs : List ℕ) (c : ℕ) → part_step (parting p cs) c ≡ parting p (cs ++ c ∷ [])
-parting_push p [] c = refl
-parting_push p (d ∷ cs) c = parting_push (part_step p d) cs c
-
-pub same_items : (cs : List ℕ) → map (λ c. c) cs ≡ cs
-same_items [] = refl
-same_items (c ∷ cs) = ap (λ (l : List ℕ). c ∷ l) (same_items cs)
 
 -- a text may be cut after digits
 pub cut_after : (s : List ℕ) (n : ℕ) → IsUtf8 s → n < length s + 1 → (0 < n → get_or s (n - 1) 0 < 128) → IsCharBoundary s n

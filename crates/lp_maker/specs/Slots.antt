@@ -1,5 +1,5 @@
 -- The names that can be seen at a place, and their slots.
-use Rattle.std.specs.Prelude.{ℕ, ◌+◌, ◌-◌, ◌^◌, List, [], ◌∷◌, ◌++◌, take, min, Option, Some, None, if◌then◌else◌}
+use Rattle.std.specs.Prelude.{ℕ, ◌+◌, List, [], ◌∷◌, ◌++◌, take, Option, Some, None, if◌then◌else◌}
 use Rattle.std.specs.Str.{bytes_eq}
 
 -- the names with their slots, the oldest first, and the next slot
@@ -15,7 +15,7 @@ no_names = names_of [] 0
 
 -- so many slots were given out
 abbrev pub after_slots : ℕ → Names → Names
-after_slots count names = names_of names.known (min (names.next + count) (2 ^ 64 - 1))
+after_slots count names = names_of names.known (names.next + count)
 
 -- a slot has a name
 abbrev pub named : List ℕ → ℕ → Names → Names

@@ -1,6 +1,6 @@
 //! What grows while a program is entered: its functions by name, tables and texts.
 
-ghost use Rattle.std.specs.Prelude.{◌≡◌, ◌++◌, [], ◌∷◌, Some, length, map, IfOk, OnOk};
+ghost use Rattle.std.specs.Prelude.{◌≡◌, ◌+◌, ◌<◌, ◌^◌, ◌++◌, [], ◌∷◌, Some, length, map, IfOk, OnOk};
 ghost use Rattle.lp_core.specs.Tree.{Apply};
 ghost use Rattle.lp_view.specs.PartLists.{listed};
 ghost use Rattle.lp_maker.specs.Texts.{binding};
@@ -243,7 +243,7 @@ impl<'p> Maker<'p> {
         match bound {
             Bound::Nothing => Ok(()),
             Bound::Triple => {
-                scope.fresh();
+                scope.fresh()?;
                 Ok(())
             }
             Bound::Named(name) => {
@@ -315,7 +315,8 @@ impl<'p> Maker<'p> {
         Ok(Expr::join(join, vec![in self.alloc; a, b]?))
     }
 
-    /// Writes the parts of a value to new slots, the first of which is answered.
+    /// Writes the parts of a value to new slots, the first of which is answered. Fails where no
+    /// number is left for a slot, or memory runs out.
     pub fn unpack(
         &self,
         scope: &mut Scope,
@@ -323,10 +324,11 @@ impl<'p> Maker<'p> {
         e: Expr,
     ) -> Result<(usize, Expr), AllocError>
         ensures first { IfOk result (λ r. r.0 ≡ scope.old.next) }
+        ensures fits { IfOk result (λ r. r.0 + count < 2 ^ 64) }
         ensures value { IfOk result (λ r. r.1 ≡ Apply (Op.Parts scope.old.next count) e) }
         ensures names { OnOk result (scope.new ≡ after_slots count scope.old) }
     {
-        let first = scope.fresh_many(count);
+        let first = scope.fresh_many(count)?;
         Ok((first, self.apply(Op::Parts(first, count), e)?))
     }
 
@@ -393,7 +395,7 @@ impl<'p> Maker<'p> {
         ensures value { IfOk result (λ r. r ≡ tried scope.old.next value) }
         ensures names { OnOk result (scope.new ≡ after_slots 1 scope.old) }
     {
-        let slot = scope.fresh();
+        let slot = scope.fresh()?;
         let error = self.apply(Op::Wrap(Tag::Failure), Expr::take(slot))?;
         let back = self.give_back(error)?;
         self.on_result(value, slot, Expr::take(slot), back)

@@ -1,9 +1,8 @@
-//! The patterns of tokens: lists that ` | ` joins, captured names, and forms with `_` for these names.
+//! The patterns of tokens: captured names, and forms with `_` for these names.
 
 ghost use Rattle.std.specs.Prelude.{◌≡◌, ◌<◌, ◌≤◌, ◌-◌, ◌++◌, length, map, string_bytes, slice_index, IfOk, OnOk};
 ghost use Rattle.std.specs.Option.{option_copied};
-ghost use Rattle.std.specs.Str.{chars};
-ghost use Rattle.lp_maker.specs.Patterns.{parted_of, unparted, opens, closes, next_quoted, next_escaped, depth_after, next_depth, noted, is_bar, put, part_step, parting, all_parts, patterns_of, digit_count, after_digits, form_within, form_of, number_after, capture_of, inner_of, captures_of};
+ghost use Rattle.lp_maker.specs.Patterns.{digit_count, after_digits, form_within, form_of, number_after, capture_of, inner_of, captures_of};
 ghost use Rattle.lp_maker.specs.Texts.{without_end};
 
 use crate::texts::{after_front, cut_at, end_place, number, numbered, parted};
@@ -89,140 +88,6 @@ fn digit_count(text: &[u8]) -> usize
         }
     }
     text.len()
-}
-
-/// Where patterns are parted: those so far and the one that is read; how many brackets are open, and whether a
-/// string is.
-#[derive(Drop)]
-pub struct Parting {
-    pub found: Vec<Text>,
-    pub piece: String,
-    pub depth: usize,
-    pub quoted: bool,
-    pub escaped: bool,
-}
-
-/// Patterns that ` | ` joins outside brackets and quotes.
-pub fn patterns(alloc: Global, text: &str) -> Result<Vec<Text>, AllocError>
-    ensures { IfOk result (λ v. v.items ≡ patterns_of text.now) }
-{
-    let parting = part_all(alloc, text)?;
-    all_parts(alloc, parting)
-}
-
-fn part_all(alloc: Global, text: &str) -> Result<Parting, AllocError>
-    ensures { IfOk result (λ p. parted_of p ≡ parting unparted (chars text.now)) }
-{
-    let mut parting = Parting {
-        found: Vec::new(alloc),
-        piece: String::new(alloc),
-        depth: 0,
-        quoted: false,
-        escaped: false,
-    };
-    for c in text.chars() {
-        part_step(alloc, &mut parting, c)?;
-    }
-    Ok(parting)
-}
-
-fn all_parts(alloc: Global, parting: Parting) -> Result<Vec<Text>, AllocError>
-    ensures { IfOk result (λ v. v.items ≡ all_parts (parted_of parting)) }
-{
-    let last = Text::from_str(alloc, parting.piece.as_str().trim())?;
-    let Parting { mut found, .. } = parting;
-    found.push(last)?;
-    Ok(found)
-}
-
-// A character more.
-fn part_step(alloc: Global, parting: &mut Parting, c: char) -> Result<(), AllocError>
-    ensures { OnOk result (parted_of parting.new ≡ part_step (parted_of parting.old) c) }
-{
-    note(parting, c);
-    put(alloc, parting, c)
-}
-
-fn note(parting: &mut Parting, c: char)
-    ensures { parted_of parting.new ≡ noted (parted_of parting.old) c }
-{
-    let depth = next_depth(parting.quoted, parting.depth, c);
-    let quoted = next_quoted(parting.quoted, parting.escaped, c);
-    let escaped = next_escaped(parting.quoted, parting.escaped, c);
-    parting.depth = depth;
-    parting.quoted = quoted;
-    parting.escaped = escaped;
-}
-
-fn put(alloc: Global, parting: &mut Parting, c: char) -> Result<(), AllocError>
-    ensures { OnOk result (parted_of parting.new ≡ put (parted_of parting.old) c) }
-{
-    if is_bar(parting, c) {
-        let text = Text::from_str(alloc, parting.piece.as_str().trim())?;
-        parting.found.push(text)?;
-        parting.piece = String::new(alloc);
-        Ok(())
-    } else {
-        parting.piece.push(c)?;
-        Ok(())
-    }
-}
-
-// Whether a `|` stands between patterns.
-fn is_bar(parting: &Parting, c: char) -> bool
-    ensures { result ≡ is_bar (parted_of parting.now) c }
-{
-    c == '|' && (parting.depth == 0 && !parting.quoted)
-}
-
-fn next_quoted(quoted: bool, escaped: bool, c: char) -> bool
-    ensures { result ≡ next_quoted quoted escaped c }
-{
-    if quoted {
-        escaped || !(c == '"')
-    } else {
-        c == '"'
-    }
-}
-
-fn next_escaped(quoted: bool, escaped: bool, c: char) -> bool
-    ensures { result ≡ next_escaped quoted escaped c }
-{
-    if quoted {
-        !escaped && c == '\\'
-    } else {
-        escaped
-    }
-}
-
-fn next_depth(quoted: bool, depth: usize, c: char) -> usize
-    ensures { result ≡ next_depth quoted depth c }
-{
-    if quoted { depth } else { depth_after(depth, c) }
-}
-
-fn depth_after(depth: usize, c: char) -> usize
-    ensures { result ≡ depth_after depth c }
-{
-    if opens(c) {
-        depth.saturating_add(1)
-    } else if closes(c) {
-        depth.saturating_sub(1)
-    } else {
-        depth
-    }
-}
-
-fn opens(c: char) -> bool
-    ensures { result ≡ opens c }
-{
-    c == '(' || (c == '[' || c == '{')
-}
-
-fn closes(c: char) -> bool
-    ensures { result ≡ closes c }
-{
-    c == ')' || (c == ']' || c == '}')
 }
 
 /// The names of a capture, or of several in parentheses.

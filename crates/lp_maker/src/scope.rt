@@ -1,6 +1,6 @@
 //! The names of a function body, and their slots.
 
-ghost use Rattle.std.specs.Prelude.{◌≡◌, None, length, IfOk, OnOk};
+ghost use Rattle.std.specs.Prelude.{◌≡◌, ◌+◌, ◌<◌, ◌^◌, None, length, IfOk, OnOk};
 ghost use Rattle.lp_maker.specs.Slots.{no_names, after_slots, bound, named, cut_to, slot_after, slot_among, slot_of};
 
 use crate::texts::same;
@@ -34,22 +34,24 @@ impl Scope {
         }
     }
 
-    /// A slot without a name.
-    pub fn fresh(&mut self) -> usize
-        ensures slot { result ≡ self.old.next }
-        ensures names { self.new ≡ after_slots 1 self.old }
+    /// A slot without a name. Fails where no number is left.
+    pub fn fresh(&mut self) -> Result<usize, AllocError>
+        ensures slot { IfOk result (λ slot. slot ≡ self.old.next) }
+        ensures names { OnOk result (self.new ≡ after_slots 1 self.old) }
     {
         self.fresh_many(1)
     }
 
-    /// So many slots without names, one after another.
-    pub fn fresh_many(&mut self, count: usize) -> usize
-        ensures slot { result ≡ self.old.next }
-        ensures names { self.new ≡ after_slots count self.old }
+    /// So many slots without names, one after another; the first of them. Fails where no number is
+    /// left.
+    pub fn fresh_many(&mut self, count: usize) -> Result<usize, AllocError>
+        ensures slot { IfOk result (λ slot. slot ≡ self.old.next) }
+        ensures fits { IfOk result (λ slot. slot + count < 2 ^ 64) }
+        ensures names { OnOk result (self.new ≡ after_slots count self.old) }
     {
         let slot = self.next;
-        self.next = slot.saturating_add(count);
-        slot
+        self.next = slot.checked_add(count).ok_or(AllocError)?;
+        Ok(slot)
     }
 
     /// A new slot for a name.
@@ -57,7 +59,7 @@ impl Scope {
         ensures slot { IfOk result (λ slot. slot ≡ self.old.next) }
         ensures names { OnOk result (self.new ≡ bound name.now self.old) }
     {
-        let slot = self.fresh();
+        let slot = self.fresh()?;
         self.name(alloc, name, slot)?;
         Ok(slot)
     }

@@ -6,7 +6,7 @@ ghost use Rattle.std.specs.Str.{bytes_eq};
 ghost use Rattle.lp_maker.specs.Numbers.{number_of, wide_number_of, pair_of, range_of};
 ghost use Rattle.lp_maker.specs.Texts.{begins, after_front, cut_at, holds, pieces, pieces_within, bare, marked, plain, state_type_of, binding, bound_of, row_binding, is_idle, last_piece, end_place, without_end};
 
-pub use crate::patterns::{capture, captures, form_of, patterns};
+pub use crate::patterns::{capture, captures, form_of};
 use lp_core::StateType;
 use lp_repr::Text;
 use std::alloc::{AllocError, Global};

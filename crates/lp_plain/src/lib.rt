@@ -13,8 +13,8 @@ pub use lp_reading::{
     BytesFault, ParseError, PlainError, Span, Top, parse_grammar, parse_top, place_of, plain_of,
     report_parse_error,
 };
-pub use lp_starts::{TablesFault, tables_of};
-pub use lp_states::{BuildFault, build_states};
+pub use lp_starts::{TablesFault, build_states, tables_of};
+pub use lp_states::BuildFault;
 pub use lp_syntax::{
     PlainAlternative, PlainGrammar, PlainKind, PlainRule, PlainSymbol, PlainTerminal,
 };

@@ -41,6 +41,7 @@ pub mod BrokenBegun
 pub mod UseBegun
 pub mod CutBegun
 pub mod ProgramBegun
+pub mod Bounds
 pub mod Looked
 pub mod Starting
 pub mod Opened

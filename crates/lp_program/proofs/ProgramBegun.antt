@@ -22,12 +22,11 @@ use Rattle.lp_local.specs.Agreeing.{first_lines}
 use Rattle.lp_local.proofs.Agreeing.{feeds-append, lines_by_line}
 use Rattle.lp_local.proofs.Back.{utf8_before}
 use Rattle.lp_local.proofs.Settling.{behind_byte, before_byte, settled_left}
-use Rattle.lp_program.specs.declared.read.reader.ReadFault.TheVariants as fault
 use Rattle.lp_program.specs.declared.read.reader.Reader.{Reader}
 use Rattle.lp_program.specs.Prefixes.{renaming, renamed, ShowsPrefix}
 use Rattle.lp_program.specs.Prefixes.ShowsPrefix.{shown, behind_use, behind_line}
 use Rattle.lp_program.specs.Reads.{is_prefix}
-use Rattle.lp_program.specs.Starting.{Begun, IsBegun, Starts}
+use Rattle.lp_program.specs.Starting.{Begun, BegunBefore, Starts}
 use Rattle.lp_program.specs.Starting.Goal.{one_part}
 use Rattle.lp_program.specs.Starting.Starts.{ended}
 use Rattle.lp_program.proofs.Existing.{behind_utf8}
@@ -56,7 +55,7 @@ feeds_over n t size many =
 
 -- what a reader says that looked at lines of the whole text
 pub program_begun : (text : List ℕ) (old new : Reader) → IsUtf8 text → length text < 2 ^ 64 → old.cursor.text.now ≡ text → left old.cursor ≡ text → old.looked ≡ 0 → Begun (one_part part.Program) old new → IsUtf8 old.prefix.now →
-    is_prefix old.prefix.now ≡ true → IsBegun text (fault.NoForm new.looked)
+    is_prefix old.prefix.now ≡ true → BegunBefore new.looked text
 program_begun text old new u size same all none begun v fits = (old.prefix.now, v, fits, starts)
   where
     starts_at : (n : ℕ) → n + 1 ≡ new.looked → Starts old.prefix.now (one_part part.Program) (first_lines n text)

@@ -28,7 +28,7 @@ use Rattle.lp_program.proofs.Nearby.{front_next, left_utf8, number_at_end, numbe
 use Rattle.lp_program.proofs.Prefixes.{none_skipped}
 
 -- a text that ends with a line feed
-ended_last : (w : List ℕ) → is_ended w ≡ true → 0 < length w → w ≡ take (length w - 1) w ++ 10 ∷ []
+pub ended_last : (w : List ℕ) → is_ended w ≡ true → 0 < length w → w ≡ take (length w - 1) w ++ 10 ∷ []
 ended_last w h some =
     ⊎_elim
     (λ e. absurd (omega (arith, some, eqb-true (length w) 0 e)))

@@ -19,7 +19,7 @@ use Rattle.lp_program.specs.declared.read.reader.ReadFault.{ReadFault}
 use Rattle.lp_program.specs.declared.read.reader.ReadFault.TheVariants as fault
 use Rattle.lp_program.specs.Begins.{Lines}
 use Rattle.lp_program.specs.Looking.{AreCounted, Picks, Chooses}
-use Rattle.lp_program.specs.Reads.{graft, hole_count}
+use Rattle.lp_program.specs.Reads.{graft, hole_count, ReadsAs}
 use Rattle.lp_program.specs.Parameters.{last_parameter, parameters_of}
 use Rattle.lp_program.specs.Prefixes.{ShowsPrefix}
 use Rattle.lp_program.specs.Telling.{Told, untold, TellsOwn}
@@ -152,6 +152,10 @@ pub record IsChosen (text : List ℕ) (program : Program) : Type 0 where
   pub rest : List ℕ
   pub shows : ShowsPrefix program.prefix text
   pub reads : WholeChosen program.prefix (whole program.entries.items) text rest
+
+-- the program that a text is read as: it reads so, and this one is chosen
+abbrev pub IsProgramOf : List ℕ → Program → Type 0
+IsProgramOf text program = ReadsAs text program × IsChosen text program
 
 -- under which prefix a text is read: the one that it shows, or `__`, where it shows none
 abbrev pub IsReadUnder : List ℕ → List ℕ → Type 0

@@ -11,6 +11,7 @@ use Rattle.lp_form.specs.declared.template.Step.{Step}
 use Rattle.lp_form.specs.declared.template.Step.TheVariants as step
 use Rattle.lp_local.specs.Agreeing.{first_lines}
 use Rattle.lp_spelling.specs.Counting.{settled}
+use Rattle.lp_spelling.specs.LineNumbers.{past_last}
 use Rattle.lp_spelling.specs.declared.cursor.Cursor.{Cursor}
 use Rattle.lp_program.specs.declared.read.growing.Growing.{Growing}
 use Rattle.lp_program.specs.declared.read.reader.ReadFault.{ReadFault}
@@ -64,10 +65,14 @@ pub data Starts (prefix : List ℕ) : Goal → List ℕ → Type 0 where
   in_tree : (s : Step) (f : Forest) (p : Part) (text mid : List ℕ) → goes_on s (parts_in f) p ≡ true → Reads prefix (trees f) text mid →
       Starts prefix (one_part p) mid → Starts prefix (below_step s) text
 
--- a program begins with the lines before the one that is named, under some prefix; but where memory is wanting
-abbrev pub IsBegun : List ℕ → ReadFault → Type 0
-IsBegun text (fault.NoForm line) =
+-- a program begins with the lines before this one, under some prefix
+abbrev pub BegunBefore : ℕ → List ℕ → Type 0
+BegunBefore line text =
     (prefix : List ℕ) × IsUtf8 prefix × (is_prefix prefix ≡ true) × Starts prefix (one_part part.Program) (first_lines (line - 1) text)
+
+-- a program begins with the lines before the one that is named, which is at most one past the last; but where memory is wanting
+abbrev pub IsBegun : List ℕ → ReadFault → Type 0
+IsBegun text (fault.NoForm line) = (line ≤ past_last text) × BegunBefore line text
 IsBegun text fault.Memory = Unit {0}
 
 -- what is left at a cursor, but of the first n lines of the whole text alone

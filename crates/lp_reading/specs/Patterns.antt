@@ -9,7 +9,7 @@ use Rattle.lp_types.specs.declared.texts.Kind.TheVariants as kind
 use Rattle.lp_types.specs.declared.reader.TheConstants.{MOST_DEPTH}
 use Rattle.lp_types.specs.Reading.{Reading, Deep, ◌>>=◌, give, where_next, expected, taken, spread}
 use Rattle.lp_types.specs.Names.{path}
-use Rattle.lp_types.specs.Types.{full_type}
+use Rattle.lp_types.specs.Types.{type_within}
 use Rattle.lp_reading.specs.declared.read_pattern.Part.{Part}
 use Rattle.lp_reading.specs.declared.read_pattern.Part.TheVariants.{Printed, Hole}
 
@@ -28,7 +28,8 @@ printed text = Printed text ∷ []
 abbrev pub quoted : List ℕ → List ℕ → List (Part TypeTree)
 quoted quote text = printed (quote ++ (text ++ quote))
 
--- What is told over `inner` has patterns inside, which `inner` reads.
+-- What is told over `inner` has patterns inside, which `inner` reads, and what is told over `types` has types
+-- inside, which `types` reads.
 
 -- the `)` behind the last pattern
 unfoldable pub closed : Reading Bool
@@ -68,8 +69,8 @@ unfoldable pub path_pattern_by : Reading (List (Part TypeTree)) → Reading (Lis
 path_pattern_by inner = path false >>= λ p. arguments_by inner >>= λ parts. give (Printed (path_text p) ∷ parts)
 
 -- what follows `<`: the type of what is captured, and `>`
-unfoldable pub hole : Reading (List (Part TypeTree))
-hole = full_type >>= λ t. expected GreaterThan >>= λ _. give (Hole t ∷ [])
+unfoldable pub hole_by : Reading TypeTree → Reading (List (Part TypeTree))
+hole_by types = types >>= λ t. expected GreaterThan >>= λ _. give (Hole t ∷ [])
 
 abbrev pub quoted_or_path : Reading (List (Part TypeTree)) → Option (List ℕ) → Reading (List (Part TypeTree))
 quoted_or_path inner (Some text) = give (quoted (codes "'") text)
@@ -89,18 +90,18 @@ literal_or_path_by inner = taken kind.StringLiteral >>= quoted_or_char inner
 
 -- a pattern: patterns in parentheses, a hole, `_`, `..`, a string or a character literal, or a path, which
 -- may have patterns
-unfoldable pub pattern_by : Reading (List (Part TypeTree)) → Reading (List (Part TypeTree))
-pattern_by inner =
+unfoldable pub pattern_by : Reading TypeTree → Reading (List (Part TypeTree)) → Reading (List (Part TypeTree))
+pattern_by types inner =
     where_next LeftParen (patterns_by inner)
-    (where_next LessThan hole
+    (where_next LessThan (hole_by types)
     (where_next Underscore (give (printed (codes "_")))
     (where_next DotDot (give (printed (codes "..")))
     (literal_or_path_by inner))))
 
--- a pattern that nests at most so deep
+-- a pattern that nests at most so deep, the types in it counted with it
 unfoldable pub pattern_within : ℕ → Reading (List (Part TypeTree))
 pattern_within zero = λ ts. Deep
-pattern_within (suc depth) = pattern_by (pattern_within depth)
+pattern_within (suc depth) = pattern_by (type_within depth) (pattern_within depth)
 
 -- parts laid out: the pieces of text before the last hole, what the holes capture, and the text behind them
 pub record Layout : Type 0 where

@@ -3,9 +3,10 @@
 ghost use Rattle.std.specs.Prelude.{◌≡◌, [], ◌∷◌, ◌++◌, IfOk, map};
 ghost use Rattle.lp_repr.specs.Shown.{path_text};
 ghost use Rattle.lp_reading.specs.LayoutView.{layout_of};
-ghost use Rattle.lp_reading.specs.Patterns.{arguments_by, char_or_path_by, closed, enclosed, group_by, hole, laid, layout, linked_pattern, literal_or_path_by, more_patterns, part_tree, path_pattern_by, pattern_by, pattern_from, pattern_of, pattern_within, patterns_by, printed, quoted, separator, token_pattern};
+ghost use Rattle.lp_reading.specs.Patterns.{arguments_by, char_or_path_by, closed, enclosed, group_by, hole_by, laid, layout, linked_pattern, literal_or_path_by, more_patterns, part_tree, path_pattern_by, pattern_by, pattern_from, pattern_of, pattern_within, patterns_by, printed, quoted, separator, token_pattern};
 ghost use Rattle.lp_types.specs.Left.{left};
 ghost use Rattle.lp_types.specs.Reading.{Answers, Read, spread};
+ghost use Rattle.lp_types.specs.Types.{type_within};
 
 use lp_repr::parse_tree::Path;
 use lp_repr::repr::{TokenPattern, TypeRepr};
@@ -54,7 +55,7 @@ fn pattern<'i>(reader: &mut Reader<'_, 'i>, depth: usize) -> Read<'i, Vec<Part<T
 /// A pattern whose parts nest at most so deep.
 #[cycle(pattern_reading)]
 fn shallow_pattern<'i>(reader: &mut Reader<'_, 'i>, inner: usize) -> Read<'i, Vec<Part<TypeRepr>>>
-    ensures { Answers (λ v. map part_tree v.items) (pattern_by (pattern_within inner) (left reader.old)) result (left reader.new) }
+    ensures { Answers (λ v. map part_tree v.items) (pattern_by (type_within inner) (pattern_within inner) (left reader.old)) result (left reader.new) }
 {
     let is_group = reader.passes(&Tok::LeftParen);
     if is_group {
@@ -62,7 +63,7 @@ fn shallow_pattern<'i>(reader: &mut Reader<'_, 'i>, inner: usize) -> Read<'i, Ve
     }
     let is_hole = reader.passes(&Tok::LessThan);
     if is_hole {
-        return hole(reader);
+        return hole(reader, inner);
     }
     let is_any = reader.passes(&Tok::Underscore);
     if is_any {
@@ -198,10 +199,10 @@ fn closed<'i>(reader: &mut Reader<'_, 'i>) -> Read<'i, bool>
 }
 
 /// What follows `<`: the type of what is captured, and `>`.
-fn hole<'i>(reader: &mut Reader<'_, 'i>) -> Read<'i, Vec<Part<TypeRepr>>>
-    ensures { Answers (λ v. map part_tree v.items) (hole (left reader.old)) result (left reader.new) }
+fn hole<'i>(reader: &mut Reader<'_, 'i>, inner: usize) -> Read<'i, Vec<Part<TypeRepr>>>
+    ensures { Answers (λ v. map part_tree v.items) (hole_by (type_within inner) (left reader.old)) result (left reader.new) }
 {
-    let ty = reader.full_type()?;
+    let ty = reader.ty(inner)?;
     reader.expect(&Tok::GreaterThan)?;
     let parts = alone(reader.alloc, Part::Hole(ty))?;
     Ok(parts)

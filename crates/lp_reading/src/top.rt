@@ -52,8 +52,8 @@ pub fn parse_grammar(alloc: Global, input: &str) -> Result<PlainGrammar, PlainEr
 }
 
 /// The grammar, pattern, type or `where` with its clauses, as `first` names it, that a text
-/// spells. Places carry the offset. A grammar's prefix is `__`. `first` is to be the start token
-/// of one of these four.
+/// spells. Places carry the offset. A grammar's prefix is `__`, and it doesn't ask for LALR.
+/// `first` is to be the start token of one of these four.
 pub fn parse_top<'i>(
     alloc: Global,
     first: Tok<'_>,

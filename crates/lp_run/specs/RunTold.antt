@@ -1,5 +1,5 @@
 -- What the answer of a run tells.
-use Rattle.std.specs.Prelude.{◌≡◌, ℕ, ◌-◌, Bool, true, false, List, map, length, Option, Some, None, Result, Ok, Err, IfSome, ◌==◌}
+use Rattle.std.specs.Prelude.{◌≡◌, ℕ, ◌-◌, ◌<◌, ◌^◌, All, Bool, true, false, List, map, length, Option, Some, None, Result, Ok, Err, IfSome, ◌==◌}
 use Rattle.lp_repr.specs.declared.values.RunItem.{RunItem}
 use Rattle.lp_repr.specs.declared.values.Outcome.{Outcome}
 use Rattle.lp_repr.specs.declared.values.Outcome.TheVariants as outcome
@@ -63,10 +63,14 @@ drive_finish budget (Err stop.Spent) calls left = Some (Spent calls budget)
 drive_finish budget (Err stop.Stuck) calls left = Some (Stuck (budget - left))
 drive_finish budget (Err stop.Memory) calls left = None
 
+-- the places of a table are numbers that a program has
+abbrev pub IsCounted : Table → Type 0
+IsCounted t = length t.entries.items < 2 ^ 64
+
 -- a run of a module is one over tables that have its entries
 abbrev pub RunsModule : Module → List RunItem → List Text → List ℕ → ℕ → Finish → Type 0
 RunsModule m items params failing budget told =
-    (tables : List Table) × (map entries_of tables ≡ m.tables) × (told ≡ module_run m tables items params failing budget)
+    (tables : List Table) × (map entries_of tables ≡ m.tables) × All IsCounted tables × (told ≡ module_run m tables items params failing budget)
 
 -- whether there are as many values as parameters
 abbrev pub RunsCounted : Bool → Module → List RunItem → List Text → List ℕ → ℕ → Finish → Type 0

@@ -1,17 +1,17 @@
 //! Running a program.
 
-ghost use Rattle.std.specs.Prelude.{◌≡◌, suc, Some, None, Option, IfOk, IfSome, MatchOption};
+ghost use Rattle.std.specs.Prelude.{◌≡◌, All, suc, Some, None, Option, IfOk, IfSome, MatchOption};
 ghost use Rattle.lp_core.specs.Store.{program_of};
 ghost use Rattle.lp_tree.specs.declared.tree.Program.{Program};
 ghost use Rattle.lp_view.specs.PartLists.{Form};
 ghost use Rattle.lp_run.specs.Entered.{EntersSome};
 ghost use Rattle.lp_run.specs.Module.{module_of};
 ghost use Rattle.lp_run.specs.ProgramRun.{parameters, by_call, driven, after_step, by_driver, parsed, module_run};
-ghost use Rattle.lp_run.specs.RunTold.{outcome_finish, run_finish, finished, result_finish, Tells, RunsItems, RunsProgram, told_finish, drive_finish};
+ghost use Rattle.lp_run.specs.RunTold.{IsCounted, outcome_finish, run_finish, finished, result_finish, Tells, RunsItems, RunsProgram, told_finish, drive_finish};
 
 use crate::enter::{Entered, enter};
 use crate::parse::Parser;
-use lp_core::{Atom, Ending, Setting, Value, World, call};
+use lp_core::{Atom, Ending, Setting, Table, Value, World, call};
 use lp_driver::{RunError, Stop, drive};
 use lp_maker::methods::Methods;
 use lp_repr::values::{Event, Outcome, RunItem};
@@ -89,7 +89,17 @@ fn run_counted<'p>(
     if code.params != params.len() {
         return Err(RunError::ParameterCount);
     }
+    see_counted(code.code.tables.as_slice());
     run_code(alloc, code, items, params, failing, budget)
+}
+
+// Each table lies in memory, so its places are counted.
+fn see_counted(tables: &[Table])
+    ensures { All IsCounted tables.now }
+{
+    for table in tables {
+        let _count = table.entries.len();
+    }
 }
 
 fn run_code<'p>(

@@ -9,6 +9,7 @@ use Rattle.lp_repr.specs.declared.lr1.Lr1State.{Lr1State}
 use Rattle.lp_repr.specs.declared.lr1.StartStates.{StartStates}
 use Rattle.lp_repr.specs.declared.numbering.SymbolNumber.{SymbolNumber}
 use Rattle.lp_repr.specs.declared.repr.Grammar.{Grammar}
+use Rattle.lp_repr.specs.declared.repr.NonterminalString.{NonterminalString}
 use Rattle.lp_states.specs.Causes.{IsCause}
 use Rattle.lp_states.specs.States.{AreStates}
 use Rattle.lp_states.specs.declared.builder.BuildFault.{BuildFault}
@@ -39,6 +40,10 @@ pub record AreTablesOf (g : Grammar) (tables : List StartStates) : Type 0 where
 -- the terminals of each state's shifts ascend
 abbrev pub ShiftsAscend : List Lr1State → Type 0
 ShiftsAscend states = All (λ (s : Lr1State). IsOrdered nat_cmp s.shifts) states
+
+-- where the grammar is valid and the start is one of its, the states are valid tables
+abbrev pub AreTheirTables : Grammar → ℕ → List Lr1State → Type 0
+AreTheirTables g start states = IsValidGrammar g → (name : NonterminalString) → slice_get (keys g.start_nonterminals) start ≡ Some name → IsValidTables g start states
 
 -- the states of each start are valid tables
 abbrev pub AreValid : Grammar → List StartStates → Type 0

@@ -5,11 +5,12 @@ ghost use Rattle.std.specs.Map.Iter.{deref};
 ghost use Rattle.std.specs.BTreeMap.{keys};
 ghost use Rattle.lp_repr.specs.ValidTables.{IsValidTables};
 ghost use Rattle.lp_valid.specs.ValidGrammar.{IsValidGrammar};
-ghost use Rattle.lp_starts.specs.Tables.{AreTablesOf, AreValid, HasNoTables, IsFaultAt, IsTableOf, ShiftsAscend, StopsAt};
+ghost use Rattle.lp_starts.specs.Tables.{AreTablesOf, AreValid, HasNoTables, IsFaultAt, IsTableOf, StopsAt};
 
+use crate::states::build_states;
 use lp_repr::repr::{Grammar, NonterminalString, Symbol};
-use lp_repr::{Items, Lr1State, StartStates, Token};
-use lp_states::{BuildFault, build_states};
+use lp_repr::{Items, StartStates, Token};
+use lp_states::BuildFault;
 use lp_valid::{GrammarFault, check_grammar};
 use std::alloc::{AllocError, AllocFailed, Global};
 
@@ -108,23 +109,11 @@ fn table_of(
 {
     let start_name = NonterminalString(name.0.clone()?);
     match build_states(alloc, grammar, start) {
-        Ok(states) => {
-            shifts_ascend(states.as_slice());
-            Ok(StartStates {
-                start: start_name,
-                states: Items(states),
-            })
-        }
+        Ok(states) => Ok(StartStates {
+            start: start_name,
+            states: Items(states),
+        }),
         Err(fault) => Err(at_start(start, fault)),
-    }
-}
-
-/// The terminals of each state's shifts ascend, as a call of each map says.
-fn shifts_ascend(states: &[Lr1State])
-    ensures { ShiftsAscend states.now }
-{
-    for state in states {
-        state.shifts.len();
     }
 }
 

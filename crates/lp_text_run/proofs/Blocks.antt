@@ -2,7 +2,7 @@
 use Rattle.std.proofs.Common.{◌≡◌, ℕ, suc, ◌+◌, List, ◌++◌, Some, Result, Ok, Err, IfErr, slice_get, subst, sym, arith}
 use Rattle.lp_driver.specs.Values.{Text}
 use Rattle.lp_lines.specs.declared.token_line.TokenLine.{TokenLine}
-use Rattle.lp_program.specs.Reads.{ReadsAs}
+use Rattle.lp_program.specs.Choosing.{IsProgramOf}
 use Rattle.lp_repr.specs.declared.values.RunItem.{RunItem}
 use Rattle.lp_tree.specs.declared.tree.Program.{Program}
 use Rattle.lp_text_run.specs.Blocks.{AreBlocks, IsFollowed, IsLineFault, IsRunFault, RunsLine, block_of}
@@ -22,7 +22,7 @@ blocks_more program params lines n line before text course at h runs f =
 -- a line without a run, behind lines that have one
 pub first_without :
     (text : Text) (program : Program) (params : List Text) (lines : List TokenLine) (place : ℕ) (line : TokenLine) (before : List ℕ) (why : TextRunFault) →
-    ReadsAs text program → slice_get lines place ≡ Some line → AreBlocks program params lines place before → IsLineFault program params line (place + 1) why → IsRunFault text params lines why
+    IsProgramOf text program → slice_get lines place ≡ Some line → AreBlocks program params lines place before → IsLineFault program params line (place + 1) why → IsRunFault text params lines why
 first_without text program params lines place line before (fault.NoForm at) r s b f = absurd f
 first_without text program params lines place line before (fault.NoStart at) r s b f = (program, place, r, (line, before, s, b, f))
 first_without text program params lines place line before (fault.ParameterCount at) r s b f = (program, place, r, (line, before, s, b, f))
@@ -31,7 +31,7 @@ first_without text program params lines place line before fault.Memory r s b f =
 -- the same of what a call answered
 pub fault_of :
     {A : Type 0} (text : Text) (program : Program) (params : List Text) (lines : List TokenLine) (place : ℕ) (line : TokenLine) (before : List ℕ) (result : Result A TextRunFault) →
-    ReadsAs text program → slice_get lines place ≡ Some line → AreBlocks program params lines place before →
+    IsProgramOf text program → slice_get lines place ≡ Some line → AreBlocks program params lines place before →
     IfErr result (IsLineFault program params line (place + 1)) → IfErr result (IsRunFault text params lines)
 fault_of text program params lines place line before (Ok a) r s b f = f
 fault_of text program params lines place line before (Err why) r s b f = first_without text program params lines place line before why r s b f

@@ -1,14 +1,14 @@
--- The blocks of token lines: each tells the run, on its line, of the program that a text reads as.
+-- The blocks of token lines: each tells the run, on its line, of the program that a text is read as.
 use Rattle.std.specs.Prelude.{◌≡◌, ℕ, zero, suc, ◌+◌, List, [], ◌++◌, length, slice_get, Option, Some, None}
 use Rattle.lp_driver.specs.Values.{Text}
 use Rattle.lp_lines.specs.Blocks.{block_text}
 use Rattle.lp_lines.specs.declared.token_line.TokenLine.{TokenLine}
-use Rattle.lp_program.specs.Choosing.{IsRefused}
-use Rattle.lp_program.specs.Reads.{ReadsAs}
+use Rattle.lp_program.specs.Choosing.{IsProgramOf, IsRefused}
 use Rattle.lp_program.specs.declared.read.reader.ReadFault.TheVariants as read
 use Rattle.lp_run.specs.ProgramRun.{Finish, NoStart, ParameterCount}
 use Rattle.lp_run.specs.RunTold.{RunsProgram}
 use Rattle.lp_tree.specs.declared.tree.Program.{Program}
+use Rattle.lp_viable.specs.Misfits.{IsMisfit}
 use Rattle.lp_text_run.specs.Courses.{Course, IsCourse}
 use Rattle.lp_text_run.specs.declared.text_run.TextRunFault.{TextRunFault}
 use Rattle.lp_text_run.specs.declared.text_run.TextRunFault.TheVariants as fault
@@ -36,9 +36,9 @@ AreBlocks program params lines zero text = text ≡ []
 AreBlocks program params lines (suc place) text =
     (before : List ℕ) × AreBlocks program params lines place before × IsFollowed program params (slice_get lines place) place before text
 
--- the program that a text reads as, with the blocks of its runs on all the lines
+-- the blocks of the runs, on all the lines, of the program that a text is read as
 abbrev pub AreRuns : Text → List Text → List TokenLine → List ℕ → Type 0
-AreRuns text params lines blocks = (program : Program) × ReadsAs text program × AreBlocks program params lines (length lines) blocks
+AreRuns text params lines blocks = (program : Program) × IsProgramOf text program × AreBlocks program params lines (length lines) blocks
 
 -- why a line has no run: its start is none, or its parameters are more or fewer than the values
 abbrev pub IsLineFault : Program → List Text → TokenLine → ℕ → TextRunFault → Type 0
@@ -54,6 +54,6 @@ IsFirstWithout program params lines place why =
 
 -- why a text has no blocks of these lines: it is refused at a line, or a token line has no run
 abbrev pub IsRunFault : Text → List Text → List TokenLine → TextRunFault → Type 0
-IsRunFault text params lines (fault.NoForm line) = IsRefused text (read.NoForm line)
+IsRunFault text params lines (fault.NoForm line) = IsRefused text (read.NoForm line) × IsMisfit text line
 IsRunFault text params lines fault.Memory = Unit {0}
-IsRunFault text params lines why = (program : Program) × (place : ℕ) × ReadsAs text program × IsFirstWithout program params lines place why
+IsRunFault text params lines why = (program : Program) × (place : ℕ) × IsProgramOf text program × IsFirstWithout program params lines place why

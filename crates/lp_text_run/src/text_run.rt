@@ -7,15 +7,17 @@ ghost use Rattle.lp_text_run.specs.Courses.{Course};
 
 use lp_driver::RunError;
 use lp_lines::{Block, TokenLine, append_block};
-use lp_program::{Program, ReadFault, read_program};
+use lp_program::{Program, ReadFault};
 use lp_repr::Text;
 use lp_run::{Run, run_program};
+use lp_viable::read_program;
 use std::alloc::{AllocError, Global};
 
 /// Why a text has no runs.
 #[derive(Clone, Copy)]
 pub enum TextRunFault {
-    /// The text reads as no program; the line, counted from 1, is the first that fits no form.
+    /// The text reads as no program; the line, counted from 1, is the first that fits no form, or one
+    /// past the last.
     NoForm { line: usize },
     /// No parse module has the start of this token line, counted from 1.
     NoStart { line: usize },
@@ -35,7 +37,7 @@ impl From<AllocError> for TextRunFault {
 }
 
 /// The blocks of the token lines, numbered from 1: each has the events, the outcome and the number
-/// of steps of the program that the text reads as. A run that is stuck gives a block without
+/// of steps of the program that the text is read as. A run that is stuck gives a block without
 /// events, with the outcome `stuck` and the steps made until then.
 pub fn run_text(
     alloc: Global,

@@ -3,7 +3,7 @@ use Rattle.std.proofs.Common.{◌≡◌, ◌∙◌, ℕ, List, [], ◌++◌, cod
 use Rattle.lp_driver.specs.Values.{Text}
 use Rattle.lp_generated.specs.Generated.{token_list}
 use Rattle.lp_lines.specs.declared.token_line.TokenLine.{TokenLine}
-use Rattle.lp_program.specs.Reads.{ReadsAs}
+use Rattle.lp_program.specs.Choosing.{IsProgramOf}
 use Rattle.lp_repr.specs.declared.repr.Grammar.{Grammar}
 use Rattle.lp_repr.specs.declared.values.RunItem.{RunItem}
 use Rattle.lp_text_run.specs.Blocks.{AreRuns}
@@ -13,7 +13,7 @@ use Rattle.lp_tool.specs.Outputs.{IsReport, course_text, size_text, values_of}
 
 pub report_told :
     (levels : ℕ) (text : List ℕ) (states : ℕ) (program : Program) (items : List RunItem) (course : Course) (before after : List ℕ) →
-    ReadsAs text program → items ≡ token_list levels → IsCourse program (codes "E0") items [] [] 1000000 course → before ≡ size_text states (length text) →
+    IsProgramOf text program → items ≡ token_list levels → IsCourse program (codes "E0") items [] [] 1000000 course → before ≡ size_text states (length text) →
     after ≡ before ++ course_text course.events course.outcome course.steps → IsReport levels text states (length text) after
 report_told levels text states program items course before after reads listed runs sizes told =
     (program, course, reads, subst (λ list. IsCourse program (codes "E0") list [] [] 1000000 course) listed runs, subst (λ b. after ≡ b ++ course_text course.events course.outcome course.steps) sizes told)

@@ -9,8 +9,7 @@ use Rattle.lp_lines.specs.Scan.{all_some}
 use Rattle.lp_lines.specs.TokenLines.{line_of, lines_of}
 use Rattle.lp_lines.specs.Vocabularies.{vocabulary_of}
 use Rattle.lp_lines.specs.declared.token_line.TokenLine.{TokenLine}
-use Rattle.lp_program.specs.Choosing.{IsRefused}
-use Rattle.lp_program.specs.Reads.{ReadsAs}
+use Rattle.lp_program.specs.Choosing.{IsProgramOf, IsRefused}
 use Rattle.lp_program.specs.declared.read.reader.ReadFault.TheVariants.{NoForm}
 use Rattle.lp_repr.specs.declared.lr1.StartStates.{StartStates}
 use Rattle.lp_repr.specs.declared.repr.Grammar.{Grammar}
@@ -33,7 +32,7 @@ abbrev pub AreLinesOf : Grammar → List ℕ → List TokenLine → Type 0
 AreLinesOf g tail lines = all_some (map (line_of (vocabulary_of g)) (lines_of tail)) ≡ Some lines
 
 -- the text of the parsers, of this length, the line `---`, and a block per token line, each of the run of the
--- program that the text reads as
+-- program that the text is read as
 pub record IsRunOutput (g : Grammar) (tables : List StartStates) (options : Options) (tail : List ℕ) (text_len : ℕ) (output : List ℕ) : Type 0 where
   pub text : List ℕ
   pub emission : IsEmission g tables options text
@@ -71,10 +70,10 @@ abbrev pub IsMadeCourse : ℕ → Program → Course → Type 0
 IsMadeCourse levels program course = IsCourse program (codes "E0") (token_list levels) [] [] 1000000 course
 
 -- what is told of a generated text: the number of its states, its length, and the run of the program that it
--- reads as
+-- is read as
 abbrev pub IsReport : ℕ → List ℕ → ℕ → ℕ → List ℕ → Type 0
 IsReport levels text states text_len output =
-    (program : Program) × (course : Course) × ReadsAs text program × IsMadeCourse levels program course
+    (program : Program) × (course : Course) × IsProgramOf text program × IsMadeCourse levels program course
     × (output ≡ size_text states text_len ++ course_text course.events course.outcome course.steps)
 
 -- a tail that follows the text of a file, where its bytes are told

@@ -1,7 +1,7 @@
 //! The generated grammar, emitted and run.
 
 ghost use Rattle.std.specs.Prelude.{◌≡◌, ◌++◌, ℕ, List, [], Option, None, Some, IfErr, IfOk, OnOk, codes, length, string_bytes};
-ghost use Rattle.lp_program.specs.Reads.{ReadsAs};
+ghost use Rattle.lp_program.specs.Choosing.{IsProgramOf};
 ghost use Rattle.lp_tool.specs.Causes.{IsOfFile};
 ghost use Rattle.lp_tool.specs.LinesTold.{IsOfNoLine};
 ghost use Rattle.lp_text_run.specs.Courses.{Course, IsCourse};
@@ -15,10 +15,11 @@ use crate::status::Status;
 use crate::tool::{Prepared, emitted};
 use lp_driver::RunError;
 use lp_generated::{make_items, make_text};
-use lp_program::{Program, ReadFault, read_program};
+use lp_program::{Program, ReadFault};
 use lp_repr::StartStates;
 use lp_repr::values::RunItem;
 use lp_run::{Run, run_program};
+use lp_viable::read_program;
 use lp_write::Options;
 use std::alloc::{AllocError, Global};
 
@@ -26,7 +27,7 @@ use std::alloc::{AllocError, Global};
 const BUDGET: u64 = 1_000_000;
 
 /// The output of `make`: the number of states, the length of the text, and the calls, outcome and
-/// steps of the program that the text reads as.
+/// steps of the program that the text is read as.
 pub fn prepare_generated(alloc: Global, levels: u8) -> Result<Prepared, Stop>
     ensures stops { IfErr result (λ stop. IsOfFile stop.status) }
     ensures answered { IfErr result (λ stop. IsAnswered stop.grammar stop.status) }
@@ -79,10 +80,10 @@ fn report(alloc: Global, text: &str, states: usize, levels: u8) -> Result<String
     Ok(output)
 }
 
-/// The program that a text reads as which is never refused.
+/// The program that a text is read as which is never refused.
 fn read_back<'t>(alloc: Global, text: &'t str) -> Result<Program<'t>, AllocError>
     requires { IsNeverRefused text.now }
-    ensures { IfOk result (ReadsAs text.now) }
+    ensures { IfOk result (IsProgramOf text.now) }
 {
     match read_program(alloc, text) {
         Ok(program) => Ok(program),

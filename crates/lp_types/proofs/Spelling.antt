@@ -1,6 +1,5 @@
 -- A text spells exactly one list of tokens.
-use Rattle.std.proofs.Common.{◌≡◌, ℕ, ◌+◌, List, [], ◌∷◌, ◌⊎◌, inl, inr, Option, Some, None, MatchOption, Ok, Err, refl, sym, ap, ◌∙◌, subst, length, ◌-◌}
-use Rattle.lp_tok.specs.declared.tok.Error.{Error}
+use Rattle.std.proofs.Common.{◌≡◌, ℕ, ◌+◌, List, [], ◌∷◌, ◌++◌, Option, Some, None, MatchOption, Ok, Err, refl, sym, ap, ◌∙◌, subst, length, ◌-◌}
 use Rattle.lp_tok.specs.declared.tok.Tok.{Tok}
 use Rattle.lp_tok.specs.Token.{Item, token_of}
 use Rattle.lp_types.specs.Marks.{Mark, mark_of}
@@ -9,7 +8,7 @@ use Rattle.lp_types.specs.declared.tokens.Where.{Where}
 use Rattle.lp_types.specs.declared.tokens.Where.TheVariants.{Outside}
 use Rattle.lp_types.specs.Left.{Left, token, ends, breaks}
 use Rattle.lp_types.proofs.Marks.{same_mark}
-use Rattle.lp_types.specs.Spelled.{Seen, AreSeen, seen_none, seen_token, seen_error, AreMarksOf, where_after, code_inside, AreInside, error_in, followed, Spliced, spliced_end, spliced_error, spliced_token, spliced_broken, Spells, IsSpelling}
+use Rattle.lp_types.specs.Spelled.{Seen, AreSeen, seen_none, seen_token, seen_error, AreMarksOf, where_after, code_inside, AreInside, Spliced, spliced_end, spliced_error, spliced_token, Spells, IsSpelling}
 
 -- what items are seen as
 abbrev AfterSeen : List Item → List Seen → Type 0
@@ -44,52 +43,25 @@ inside_of_code (Some code) to a b one other = marks_same code (to - length code)
 inside_same : (w : Where) (m : Mark) (to : ℕ) (a b : List Seen) → AreInside w m to a → AreInside w m to b → a ≡ b
 inside_same w m to a b one other = inside_of_code (code_inside w m) to a b one other
 
--- nothing follows an error
-broken_same : (inside : List Seen) (e : Error) (a b : Left) → error_in inside ≡ Some e → followed inside a ≡ followed inside b
-broken_same [] e a b is = absurd cc
-broken_same (Ok x ∷ inside) e a b is = ap (token x.0 x.1 x.2) (broken_same inside e a b is)
-broken_same (Err x ∷ inside) e a b is = refl
-
 -- what the first item says of the tokens
-abbrev Token-first : ℕ → Where → ℕ → Mark → ℕ → List Seen → Left → Type 0
-Token-first end w from m to marks ts =
-    ((inside : List Seen) × (rest : Left) × AreInside w m to inside × (error_in inside ≡ None) × Spliced end (where_after w m) marks rest × (ts ≡ token from m to (followed inside rest)))
-    ⊎ ((inside : List Seen) × (e : Error) × AreInside w m to inside × (error_in inside ≡ Some e) × (ts ≡ token from m to (followed inside (ends end))))
-
 abbrev AfterItem : ℕ → Where → List Seen → Left → Type 0
 AfterItem end w [] ts = ts ≡ ends end
-AfterItem end w (Ok x ∷ marks) ts = Token-first end w x.0 x.1 x.2 marks ts
+AfterItem end w (Ok x ∷ marks) ts = (inside : List Seen) × (rest : Left) × AreInside w x.1 x.2 inside × Spliced end (where_after w x.1) (inside ++ marks) rest × (ts ≡ token x.0 x.1 x.2 rest)
 AfterItem end w (Err e ∷ marks) ts = ts ≡ breaks e
 
 after_item : (end : ℕ) (w : Where) (marks : List Seen) (ts : Left) → Spliced end w marks ts → AfterItem end w marks ts
 after_item end _ _ _ (spliced_end w) = refl
 after_item end _ _ _ (spliced_error w e marks) = refl
-after_item end _ _ _ (spliced_token w from m to marks inside rest are whole more) = inl (inside, rest, are, whole, more, refl)
-after_item end _ _ _ (spliced_broken w from m to marks inside e are broken) = inr (inside, e, are, broken, refl)
+after_item end _ _ _ (spliced_token w from m to marks inside rest are more) = (inside, rest, are, more, refl)
 
 spliced_same : (end : ℕ) (w : Where) (marks : List Seen) (a b : Left) → Spliced end w marks a → Spliced end w marks b → a ≡ b
 spliced_same end _ _ _ b (spliced_end w) other = sym (after_item end w [] b other)
 spliced_same end _ _ _ b (spliced_error w e marks) other = sym (after_item end w (Err e ∷ marks) b other)
-spliced_same end _ _ _ b (spliced_token w from m to marks inside rest are whole more) other =
-    elim (after_item end w (Ok (from, m, to) ∷ marks) b other) [
-      | inl same ↦
-          let one : inside ≡ same.0 = inside_same w m to inside same.0 are same.2 in
-          let tail : rest ≡ same.1 = spliced_same end (where_after w m) marks rest same.1 more same.4 in
-          ap (λ r. token from m to (followed inside r)) tail ∙ ap (λ i. token from m to (followed i same.1)) one ∙ sym same.5
-      | inr broken ↦
-          let one : inside ≡ broken.0 = inside_same w m to inside broken.0 are broken.2 in
-          let is : error_in inside ≡ Some broken.1 = ap (error_in) one ∙ broken.3 in
-          ap (token from m to) (broken_same inside broken.1 rest (ends end) is) ∙ ap (λ i. token from m to (followed i (ends end))) one ∙ sym broken.4
-    ]
-spliced_same end _ _ _ b (spliced_broken w from m to marks inside e are is) other =
-    elim (after_item end w (Ok (from, m, to) ∷ marks) b other) [
-      | inl whole ↦
-          let one : inside ≡ whole.0 = inside_same w m to inside whole.0 are whole.2 in
-          ap (token from m to) (broken_same inside e (ends end) whole.1 is) ∙ ap (λ i. token from m to (followed i whole.1)) one ∙ sym whole.5
-      | inr same ↦
-          let one : inside ≡ same.0 = inside_same w m to inside same.0 are same.2 in
-          ap (λ i. token from m to (followed i (ends end))) one ∙ sym same.4
-    ]
+spliced_same end _ _ _ b (spliced_token w from m to marks inside rest are more) other =
+    let same = after_item end w (Ok (from, m, to) ∷ marks) b other in
+    let one : same.0 ≡ inside = inside_same w m to same.0 inside same.2 are in
+    let tail : rest ≡ same.1 = spliced_same end (where_after w m) (inside ++ marks) rest same.1 more (subst (λ i. Spliced end (where_after w m) (i ++ marks) same.1) one same.3) in
+    ap (token from m to) tail ∙ sym same.4
 
 spells_same : (text : List ℕ) (offset : ℕ) (a b : Left) → Spells text offset a → Spells text offset b → a ≡ b
 spells_same text offset a b one other =

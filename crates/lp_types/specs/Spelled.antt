@@ -1,6 +1,6 @@
 -- The tokens that a grammar file's text spells: those of the text, where in the braces of `enum` the tokens of a
 -- code follow its `=>`.
-use Rattle.std.specs.Prelude.{◌≡◌, ℕ, ◌+◌, ◌-◌, List, [], ◌∷◌, Option, Some, None, MatchOption, Result, Ok, Err, if◌then◌else◌, length}
+use Rattle.std.specs.Prelude.{◌≡◌, ℕ, ◌+◌, ◌-◌, List, [], ◌∷◌, ◌++◌, Option, Some, None, MatchOption, Result, Ok, Err, if◌then◌else◌, length}
 use Rattle.lp_tok.specs.declared.tok.Error.{Error}
 use Rattle.lp_tok.specs.declared.tok.Tok.{Tok}
 use Rattle.lp_tok.specs.declared.tok.Tok.TheVariants.{Enum, LeftBrace, RightBrace}
@@ -53,24 +53,12 @@ code_inside Inside m = arrow_code m
 abbrev pub AreInside : Where → Mark → ℕ → List Seen → Type 0
 AreInside w m to inside = MatchOption (code_inside w m) (inside ≡ []) (λ code. AreMarksOf code (to - length code) inside)
 
--- the first error
-abbrev pub error_in : List Seen → Option Error
-error_in [] = None
-error_in (Ok x ∷ marks) = error_in marks
-error_in (Err e ∷ marks) = Some e
-
--- these tokens, and then those that are left; an error among them ends them
-abbrev pub followed : List Seen → Left → Left
-followed [] rest = rest
-followed (Ok x ∷ marks) rest = token x.0 x.1 x.2 (followed marks rest)
-followed (Err e ∷ marks) rest = breaks e
-
--- the tokens of a text that ends at the place `end`, with those of the codes of the enum; an error ends them
+-- the tokens of a text that ends at the place `end`, with those of the codes of the enum, and of the codes in
+-- those; an error ends them
 pub data Spliced (end : ℕ) : Where → List Seen → Left → Type 0 where
   spliced_end : (w : Where) → Spliced end w [] (ends end)
   spliced_error : (w : Where) (e : Error) (marks : List Seen) → Spliced end w (Err e ∷ marks) (breaks e)
-  spliced_token : (w : Where) (from : ℕ) (m : Mark) (to : ℕ) (marks inside : List Seen) (rest : Left) → AreInside w m to inside → error_in inside ≡ None → Spliced end (where_after w m) marks rest → Spliced end w (Ok (from, m, to) ∷ marks) (token from m to (followed inside rest))
-  spliced_broken : (w : Where) (from : ℕ) (m : Mark) (to : ℕ) (marks inside : List Seen) (e : Error) → AreInside w m to inside → error_in inside ≡ Some e → Spliced end w (Ok (from, m, to) ∷ marks) (token from m to (followed inside (ends end)))
+  spliced_token : (w : Where) (from : ℕ) (m : Mark) (to : ℕ) (marks inside : List Seen) (rest : Left) → AreInside w m to inside → Spliced end (where_after w m) (inside ++ marks) rest → Spliced end w (Ok (from, m, to) ∷ marks) (token from m to rest)
 
 -- a text whose places begin with `offset` spells these tokens
 pub record Spells (text : List ℕ) (offset : ℕ) (tokens : Left) : Type 0 where
@@ -83,11 +71,10 @@ pub record IsSpelling (text : List ℕ) (offset : ℕ) (tokens : Left) : Type 0 
   pub spelled : Spells text offset tokens
   pub no_other : (others : Left) → Spells text offset others → others ≡ tokens
 
--- tokens and the error that ends them, as a reader sees them
-abbrev pub marks_of : List (ℕ × Tok × ℕ) → Option Error → List Seen
-marks_of [] None = []
-marks_of [] (Some e) = Err e ∷ []
-marks_of (x ∷ xs) error = Ok (x.0, mark_of x.1, x.2) ∷ marks_of xs error
+-- what the tokenizer answers, as a reader sees it
+abbrev pub seen : Result (ℕ × Tok × ℕ) Error → Seen
+seen (Ok x) = Ok (x.0, mark_of x.1, x.2)
+seen (Err e) = Err e
 
 -- a call answers what the reading finds at the front of the tokens that a text spells; want of memory says
 -- nothing

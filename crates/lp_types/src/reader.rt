@@ -17,9 +17,9 @@ use std::alloc::{AllocError, Global};
 /// What reading a part gives.
 pub type Read<'i, T> = Result<T, PlainError<'i>>;
 
-/// How deep types and patterns may nest. The stack is memory too: what nests deeper is refused as
-/// want of memory.
-pub const MOST_DEPTH: usize = 1000;
+/// How deep types and patterns may nest, the types in a pattern counted with it. The stack is memory
+/// too: what nests deeper is refused as want of memory.
+pub const MOST_DEPTH: usize = 400;
 
 /// The tokens that are left, and how they end.
 #[derive(Drop)]

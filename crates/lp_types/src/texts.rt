@@ -7,7 +7,7 @@ ghost use Rattle.lp_types.specs.Marks.{is_tok, mark_of, texted};
 use lp_tok::Tok;
 
 /// A kind of tokens that have a text.
-#[derive(Clone, Copy)]
+#[derive(Clone, Copy, PartialEq, Eq)]
 pub enum Kind {
     Use,
     Escape,

@@ -1,10 +1,10 @@
 //! The tokens of a grammar file, with the patterns of its enum as tokens of their own.
 
-ghost use Rattle.std.specs.Prelude.{◌≡◌, ◌+◌, ◌-◌, ◌^◌, ◌<◌, IfOk, ℕ, length};
+ghost use Rattle.std.specs.Prelude.{◌≡◌, ◌+◌, ◌-◌, ◌^◌, ◌<◌, IfOk, ℕ, length, map};
 ghost use Rattle.std.specs.Option.{option_copied};
 ghost use Rattle.lp_types.specs.Left.{left_of};
 ghost use Rattle.lp_types.specs.Marks.{mark_of};
-ghost use Rattle.lp_types.specs.Spelled.{AreInside, AreMarksOf, IsSpelling, Spliced, arrow_code, code_inside, marks_of, where_after};
+ghost use Rattle.lp_types.specs.Spelled.{AreInside, AreMarksOf, IsSpelling, Spliced, arrow_code, code_inside, seen, where_after};
 
 use crate::texts::is_same;
 use lp_tok::{Error, Spanned, Tok, Tokenizer};
@@ -16,6 +16,9 @@ pub struct Tokens<'input> {
     pub list: Vec<Spanned<Tok<'input>>>,
     pub error: Option<Error>,
 }
+
+/// A token or an error, as the tokenizer answers it.
+type Found<'i> = Result<Spanned<Tok<'i>>, Error>;
 
 /// Where a token stands.
 #[derive(Clone, Copy)]
@@ -81,7 +84,7 @@ fn arrow_code<'i>(token: &Tok<'i>) -> Option<&'i str>
 
 impl<'input> Tokens<'input> {
     /// The tokens of a text whose places begin with `offset`. In the braces of `enum` the tokens
-    /// of a code follow its `=>`.
+    /// of a code follow its `=>`, and so do those of a code among them.
     pub fn new(
         alloc: Global,
         input: &'input str,
@@ -91,53 +94,60 @@ impl<'input> Tokens<'input> {
         ensures { IfOk result (λ t. IsSpelling input.now offset (left_of t.list.items t.error (length input.now + offset))) }
     {
         let plain = plain_tokens(alloc, input, offset)?;
-        let tokens = with_codes(alloc, plain.list, plain.error)?;
+        let tokens = with_codes(alloc, plain, input.len().saturating_add(1))?;
         Ok(tokens)
     }
 }
 
-/// The tokens of a text whose places begin with `offset`.
-fn plain_tokens<'i>(alloc: Global, text: &'i str, offset: usize) -> Result<Tokens<'i>, AllocError>
+/// What the tokenizer answers for a text whose places begin with `offset`.
+fn plain_tokens<'i>(
+    alloc: Global,
+    text: &'i str,
+    offset: usize,
+) -> Result<Vec<Found<'i>>, AllocError>
     requires { length text.now + offset < 2 ^ 64 }
-    ensures { IfOk result (λ t. AreMarksOf text.now offset (marks_of t.list.items t.error)) }
+    ensures { IfOk result (λ found. AreMarksOf text.now offset (map seen found.items)) }
 {
-    let mut tokens = Tokens {
-        list: Vec::new(alloc),
-        error: None,
-    };
+    let mut found = Vec::new(alloc);
     let mut tokenizer = Tokenizer::new(text, offset);
     while let Some(item) = tokenizer.next() {
-        match item {
-            Err(error) => tokens.error = Some(error),
-            Ok(spanned) => tokens.list.push(spanned)?,
-        }
+        found.push(item)?;
     }
-    Ok(tokens)
+    Ok(found)
 }
 
-/// These tokens, where in the braces of `enum` the tokens of a code follow its `=>`.
+/// These tokens, where in the braces of `enum` the tokens of a code follow its `=>`. Each token
+/// takes a byte of the text, so that there are fewer than `turns`.
 fn with_codes<'i>(
     alloc: Global,
-    plain: Vec<Spanned<Tok<'i>>>,
-    error: Option<Error>,
+    plain: Vec<Found<'i>>,
+    turns: usize,
 ) -> Result<Tokens<'i>, AllocError>
-    ensures { IfOk result (λ t. (end : ℕ) → Spliced end Where.Outside (marks_of plain.entry.items error) (left_of t.list.items t.error end)) }
+    ensures { IfOk result (λ t. (end : ℕ) → Spliced end Where.Outside (map seen plain.entry.items) (left_of t.list.items t.error end)) }
 {
     let mut list = Vec::new(alloc);
     let mut place = Where::Outside;
-    for spanned in plain {
-        let mut inside = inside_of(alloc, place, &spanned)?;
-        place = place.after(&spanned.1);
-        list.push(spanned)?;
-        list.append(&mut inside.list)?;
-        if inside.error.is_some() {
-            return Ok(Tokens {
-                list,
-                error: inside.error,
-            });
+    let mut pending = plain;
+    pending.reverse();
+    for turn in 0..turns {
+        match pending.pop() {
+            None => return Ok(Tokens { list, error: None }),
+            Some(Err(error)) => {
+                return Ok(Tokens {
+                    list,
+                    error: Some(error),
+                });
+            }
+            Some(Ok(spanned)) => {
+                let mut inside = inside_of(alloc, place, &spanned)?;
+                place = place.after(&spanned.1);
+                list.push(spanned)?;
+                inside.reverse();
+                pending.append(&mut inside)?;
+            }
         }
     }
-    Ok(Tokens { list, error })
+    Err(AllocError)
 }
 
 /// The tokens that follow a token: those of its code, where it is an arrow in the enum.
@@ -145,14 +155,11 @@ fn inside_of<'i>(
     alloc: Global,
     place: Where,
     spanned: &Spanned<Tok<'i>>,
-) -> Result<Tokens<'i>, AllocError>
-    ensures { IfOk result (λ t. AreInside place (mark_of spanned.now.1) spanned.now.2 (marks_of t.list.items t.error)) }
+) -> Result<Vec<Found<'i>>, AllocError>
+    ensures { IfOk result (λ found. AreInside place (mark_of spanned.now.1) spanned.now.2 (map seen found.items)) }
 {
     match place.code(&spanned.1) {
         Some(code) => plain_tokens(alloc, code, spanned.2.saturating_sub(code.len())),
-        None => Ok(Tokens {
-            list: Vec::new(alloc),
-            error: None,
-        }),
+        None => Ok(Vec::new(alloc)),
     }
 }

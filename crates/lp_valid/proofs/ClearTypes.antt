@@ -1,5 +1,5 @@
 -- Whether a type holds the prefix, from its parts; and the texts that hold it.
-use Rattle.std.proofs.Common.{◌≡◌, ℕ, Bool, true, false, ◌&&◌, ◌||◌, List, [], ◌∷◌, ◌++◌, length, drop, not, refl, sym, ap, ◌∙◌, Option, None, Some, Vec, Global, nat_eq, ⊎_elim}
+use Rattle.std.proofs.Common.{◌≡◌, ℕ, Bool, true, false, ◌&&◌, ◌||◌, List, [], ◌∷◌, ◌++◌, codes, length, drop, refl, sym, ap, ◌∙◌, Option, None, Some, Vec, Global, nat_eq, ⊎_elim}
 use Rattle.std.specs.Bool.{MatchBool}
 use Rattle.std.specs.List.{list_all, starts_with}
 use Rattle.std.specs.Str.Iter.{HasSubslice}
@@ -41,10 +41,10 @@ nominal_clear prefix types n =
     ap (λ b. is_error_type prefix types n.path (items-the_row-TypeRepr row.0 row.1) || (list_all (lacks prefix) n.path.ids && b)) (clear_row prefix types row.0 row.1)
     ∙ ap (λ l. is_error_type prefix types n.path l || (list_all (lacks prefix) n.path.ids && list_all (is_clear prefix types) l)) (items_hidden-the_row-TypeRepr-0 n.types)
 
-pub object_clear : (prefix : List ℕ) (types : Types) (n : NominalTypeRepr) → is_clear prefix types (TraitObject n) ≡ is_clear_nominal prefix types n
+pub object_clear : (prefix : List ℕ) (types : Types) (n : NominalTypeRepr) → is_clear prefix types (TraitObject n) ≡ (lacks prefix (codes "dyn") && is_clear_nominal prefix types n)
 object_clear prefix types n =
     let row = row_of (TraitObject n) in
-    ap (λ b. list_all (lacks prefix) n.path.ids && b) (clear_row prefix types row.0 row.1 ∙ ap (list_all (is_clear prefix types)) (items_hidden-the_row-TypeRepr-0 n.types))
+    ap (λ b. lacks prefix (codes "dyn") && (list_all (lacks prefix) n.path.ids && b)) (clear_row prefix types row.0 row.1 ∙ ap (list_all (is_clear prefix types)) (items_hidden-the_row-TypeRepr-0 n.types))
 
 pub fn_clear : (prefix : List ℕ) (types : Types) (binder : Vec TypeParameter Global) (path : Path) (parts : Vec TypeRepr Global) (ret : Option (Box TypeRepr Global)) → is_clear prefix types (Fn binder path parts ret) ≡ (is_clear_head prefix binder.items path && (list_all (is_clear prefix types) parts.items && is_clear_ret_type prefix types ret))
 fn_clear prefix types binder path parts None =

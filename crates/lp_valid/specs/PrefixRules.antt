@@ -106,20 +106,29 @@ abbrev pub is_clear_lifetime : List ℕ → Option (String Global) → Bool
 is_clear_lifetime prefix None = true
 is_clear_lifetime prefix (Some name) = lacks prefix (string_bytes name)
 
--- the binder and the path of a function without the prefix
+-- what is printed between `&` and a type: a lifetime, and `mut` where it stands
+abbrev pub is_clear_reference : List ℕ → Option (String Global) → Bool → Bool
+is_clear_reference prefix lifetime mutable = is_clear_lifetime prefix lifetime && (not mutable || lacks prefix (codes "mut"))
+
+-- a binder, which prints `for` and its names, or nothing
+abbrev pub is_clear_binder : List ℕ → List TypeParameter → Bool
+is_clear_binder prefix [] = true
+is_clear_binder prefix (b ∷ bs) = lacks prefix (codes "for") && list_all (λ b. lacks prefix (parameter_text b)) (b ∷ bs)
+
+-- what is printed before the parameters of a function: `dyn`, the binder and the path
 abbrev pub is_clear_head : List ℕ → List TypeParameter → Path → Bool
-is_clear_head prefix binder path = list_all (λ b. lacks prefix (parameter_text b)) binder && list_all (lacks prefix) path.ids
+is_clear_head prefix binder path = lacks prefix (codes "dyn") && (is_clear_binder prefix binder && list_all (lacks prefix) path.ids)
 
 abbrev mutual
-  -- no name in the type holds the prefix, but inside the error terminal's type
+  -- no word that is printed for the type holds the prefix, but inside the error terminal's type
   pub is_clear : List ℕ → Types → TypeRepr → Bool
   is_clear prefix types (Tuple' shape parts) = is_clear_row prefix types parts
   is_clear prefix types (Slice' p element) = is_clear prefix types element
   is_clear prefix types (Nominal' path shape arguments) = is_error_type prefix types path (items-the_row-TypeRepr _ arguments) || (list_all (lacks prefix) path.ids && is_clear_row prefix types arguments)
-  is_clear prefix types (TraitObject' path shape arguments) = list_all (lacks prefix) path.ids && is_clear_row prefix types arguments
+  is_clear prefix types (TraitObject' path shape arguments) = lacks prefix (codes "dyn") && (list_all (lacks prefix) path.ids && is_clear_row prefix types arguments)
   is_clear prefix types (Associated name id) = lacks prefix (string_bytes name) && lacks prefix (string_bytes id)
   is_clear prefix types (Lifetime name) = lacks prefix (string_bytes name)
-  is_clear prefix types (Ref' lifetime mutable p referent) = is_clear_lifetime prefix lifetime && is_clear prefix types referent
+  is_clear prefix types (Ref' lifetime mutable p referent) = is_clear_reference prefix lifetime mutable && is_clear prefix types referent
   is_clear prefix types (Fn' binder path shape parameters ret) = is_clear_head prefix binder.items path && (is_clear_row prefix types parameters && is_clear_ret prefix types ret)
 
   -- of a list of types

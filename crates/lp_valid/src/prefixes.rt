@@ -4,14 +4,14 @@ ghost use Rattle.std.specs.Prelude.{◌≡◌, ◌==◌, ◌&&◌, ◌||◌, not
 ghost use Rattle.std.specs.List.{list_all, starts_with};
 ghost use Rattle.lp_repr.specs.Names.{same_text};
 ghost use Rattle.lp_repr.specs.Shown.{parameter_text};
-ghost use Rattle.lp_valid.specs.PrefixRules.{lacks, same_type, is_unit, is_one_name, is_str, is_static, is_static_str, is_location, is_user_error, are_error_names, are_error_arguments, is_error_type, is_clear_lifetime, is_clear_head, is_clear};
+ghost use Rattle.lp_valid.specs.PrefixRules.{lacks, same_type, is_unit, is_one_name, is_str, is_static, is_static_str, is_location, is_user_error, are_error_names, are_error_arguments, is_error_type, is_clear_lifetime, is_clear_reference, is_clear_binder, is_clear_head, is_clear};
 ghost use Rattle.lp_valid.specs.PrefixParts.{is_clear_ret_type, is_clear_nominal};
 
 use lp_repr::Text;
 use lp_repr::parse_tree::{Path, TypeParameter};
 use lp_repr::repr::{NominalTypeRepr, TypeRepr, Types};
 
-/// The prefix, which no name of a type may hold, and the types of which the error terminal's type
+/// The prefix, which no word that is printed for a type may hold, and the types of which the error terminal's type
 /// is made, which may.
 #[derive(Clone, Copy)]
 pub(crate) struct Forbidden<'g> {
@@ -192,7 +192,8 @@ fn is_one_name(name: &str, names: &[Text]) -> bool
     }
 }
 
-/// Whether no name in the type holds the prefix, except inside the error terminal's type.
+/// Whether no word that is printed for the type holds the prefix, except inside the error terminal's
+/// type.
 #[cycle(clear)]
 pub(crate) fn is_clear(forbidden: &Forbidden<'_>, ty: &TypeRepr) -> bool
     ensures { result ≡ is_clear forbidden.now.prefix.now forbidden.now.types.now ty.now }
@@ -203,16 +204,21 @@ pub(crate) fn is_clear(forbidden: &Forbidden<'_>, ty: &TypeRepr) -> bool
         TypeRepr::Nominal(nominal) => {
             is_error_type(forbidden, nominal) || is_clear_nominal(forbidden, nominal)
         }
-        TypeRepr::TraitObject(nominal) => is_clear_nominal(forbidden, nominal),
+        TypeRepr::TraitObject(nominal) => {
+            lacks(forbidden.prefix, "dyn") && is_clear_nominal(forbidden, nominal)
+        }
         TypeRepr::Associated { type_parameter, id } => {
             lacks(forbidden.prefix, type_parameter.as_str()) && lacks(forbidden.prefix, id.as_str())
         }
         TypeRepr::Lifetime(name) => lacks(forbidden.prefix, name.as_str()),
         TypeRepr::Ref {
             lifetime,
+            mutable,
             referent,
-            ..
-        } => is_clear_lifetime(forbidden.prefix, lifetime) && is_clear(forbidden, referent),
+        } => {
+            is_clear_reference(forbidden.prefix, lifetime, *mutable)
+                && is_clear(forbidden, referent)
+        }
         TypeRepr::Fn {
             binder,
             path,
@@ -277,11 +283,29 @@ fn is_clear_lifetime(prefix: &str, lifetime: &Option<String>) -> bool
     }
 }
 
-/// The binder and the path of a function.
+/// What is printed between `&` and a type.
+fn is_clear_reference(prefix: &str, lifetime: &Option<String>, mutable: bool) -> bool
+    ensures { result ≡ is_clear_reference prefix.now lifetime.now mutable }
+{
+    is_clear_lifetime(prefix, lifetime) && (!mutable || lacks(prefix, "mut"))
+}
+
+/// What is printed before the parameters of a function.
 fn is_clear_head(prefix: &str, binder: &[TypeParameter], path: &Path) -> bool
     ensures { result ≡ is_clear_head prefix.now binder.now path.now }
 {
-    are_clear_parameters(prefix, binder) && are_clear_names(prefix, path.ids.as_slice())
+    lacks(prefix, "dyn")
+        && is_clear_binder(prefix, binder)
+        && are_clear_names(prefix, path.ids.as_slice())
+}
+
+fn is_clear_binder(prefix: &str, binder: &[TypeParameter]) -> bool
+    ensures { result ≡ is_clear_binder prefix.now binder.now }
+{
+    match binder {
+        [] => true,
+        [_, ..] => lacks(prefix, "for") && are_clear_parameters(prefix, binder),
+    }
 }
 
 fn are_clear_names(prefix: &str, names: &[Text]) -> bool

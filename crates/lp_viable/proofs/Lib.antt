@@ -29,3 +29,4 @@ pub mod Rest
 pub mod Restarted
 pub mod LinesPassed
 pub mod Dead
+pub mod Misfits

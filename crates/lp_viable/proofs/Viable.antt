@@ -76,7 +76,8 @@ program_viable prefix text behind u fits d =
 
 -- the lines in front of the one that is named can be completed to a program, under some prefix
 pub begun_is_viable : (text : List ℕ) (line : ℕ) → IsUtf8 text → IsBegun text (fault.NoForm line) → IsViable (first_lines (line - 1) text)
-begun_is_viable text line u b =
+begun_is_viable text line u within =
+    let b = within.1 in
     let front : List ℕ = first_lines (line - 1) text in
     let s = starts_through b.0 (one_part part.Program) front (first_utf8 (line - 1) text u) b.3 in
     program_viable b.0 front s.0 s.1 b.2 (part_done b.0 b.1 b.2 part.Program (front ++ s.0) s.2)

@@ -3,4 +3,5 @@ pub mod Least
 pub mod StepTests
 pub mod Held
 pub mod Viable
+pub mod Misfits
 pub mod Dead

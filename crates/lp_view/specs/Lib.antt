@@ -1,4 +1,3 @@
 pub mod Elements
-pub mod HeldRows
 pub mod PartLists
 pub mod Weights

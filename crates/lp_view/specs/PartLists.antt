@@ -1,7 +1,6 @@
 -- Parts of a program, each with all that is below it, as lists in the order of the text.
-use Rattle.std.specs.Prelude.{ℕ, zero, suc, ℤ, Bool, List, [], ◌∷◌, length, map, take, drop, get_or, Option, Some, None, slice_get, unwrap_or, is_some, ◌||◌, if◌then◌else◌}
+use Rattle.std.specs.Prelude.{ℕ, zero, suc, ℤ, Bool, List, [], ◌∷◌, length, map, take, drop, get_or, Option, Some, None, slice_get, unwrap_or, is_some, if◌then◌else◌}
 use Rattle.std.specs.Option.{option_or}
-use Rattle.std.specs.List.{filter}
 use Rattle.lp_form.specs.declared.part.Part.{Part}
 use Rattle.lp_form.specs.declared.part.Part.TheVariants as part
 use Rattle.lp_form.specs.declared.kind.FormKind.{FormKind}
@@ -63,21 +62,6 @@ level_all es = level (length es) es
 -- the parts directly below, in the order of the text
 abbrev pub parts_of : Form → List Form
 parts_of form = level_all (drop 1 form)
-
-abbrev pub is_either : Part → Part → Part → Bool
-is_either part first second = (equality.ghosts).eq part first || (equality.ghosts).eq part second
-
--- of parts that stand side by side those that are one of two
-abbrev pub either_among : Part → Part → List Item → List Form
-either_among first second es = filter (λ f. is_either (part_of f) first second) (level_all es)
-
--- the same of the parts directly below
-abbrev pub either_below : Part → Part → Form → List Form
-either_below first second f = either_among first second (drop 1 f)
-
--- the first of them; no part, where there is none
-abbrev pub first_of_either : Part → Part → Form → Form
-first_of_either first second f = unwrap_or (slice_get (either_below first second f) 0) []
 
 abbrev pub is_form : Part → Bool
 is_form part = is_some (form_of part)

@@ -1,10 +1,9 @@
 //! The parts of a program by their templates: the forms, their rows, and the alternatives of lines.
 
-ghost use Rattle.std.specs.Prelude.{◌≡◌, ◌<◌, ◌≤◌, ◌-◌, [], ◌∷◌, drop, length, map, take, IfSome, MatchOption};
+ghost use Rattle.std.specs.Prelude.{◌≡◌, ◌<◌, ◌≤◌, ◌-◌, [], ◌∷◌, drop, get_or, length, map, take, IfSome, MatchOption};
 ghost use Rattle.lp_tree.specs.ProgramTree.{item};
 ghost use Rattle.lp_view.specs.PartLists.{part_of, hole_of, numbers_of, parts_of, level, listed, form_listed, parts_left};
 
-use crate::row::text;
 use crate::walk::{FormRef, after_first, end_of, first};
 use lp_form::Part;
 use lp_tree::tree::Entry;
@@ -96,6 +95,26 @@ impl<'p> Iterator for Parts<'p> {
                 })
             }
         }
+    }
+}
+
+/// What a hole of the first part holds; the empty text where there is no such hole.
+fn text<'p>(entries: &'p [Entry<'p>], hole: usize) -> &'p str
+    ensures { result.now ≡ hole_of hole (map item entries.now) }
+{
+    match first(entries) {
+        Some(entry) => hole_text(entry, hole),
+        None => "",
+    }
+}
+
+fn hole_text<'p>(entry: &'p Entry<'p>, hole: usize) -> &'p str
+    ensures { result.now ≡ get_or entry.now.holes.items hole [] }
+{
+    if hole < entry.holes.len() {
+        entry.holes[hole].as_str()
+    } else {
+        ""
     }
 }
 

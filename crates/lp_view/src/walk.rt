@@ -5,8 +5,7 @@ ghost use Rattle.std.specs.Option.{option_copied, option_map};
 ghost use Rattle.lp_tree.specs.declared.tree.Entry.{Entry};
 ghost use Rattle.lp_form.specs.Forms.{form_of};
 ghost use Rattle.lp_tree.specs.ProgramTree.{item, program_items};
-ghost use Rattle.lp_view.specs.HeldRows.{has_below};
-ghost use Rattle.lp_view.specs.PartLists.{either_among, first_of_either, form_listed, forms_among, forms_below, forms_left, is_either, is_form, kind_of};
+ghost use Rattle.lp_view.specs.PartLists.{form_listed, forms_among, forms_below, forms_left, is_form, kind_of};
 
 use lp_form::{FormKind, Part, form};
 use lp_tree::tree::{Entry, Program};
@@ -33,13 +32,6 @@ impl<'p, 't> FormRef<'p, 't> {
         Below {
             rest: after_first(self.entries),
         }
-    }
-
-    /// Its own entry and those below it, as they stand in the program.
-    pub fn entries(&self) -> &'p [Entry<'t>]
-        ensures { map item result.now ≡ form_listed self.now }
-    {
-        self.entries
     }
 }
 
@@ -140,51 +132,4 @@ fn kind_or_program(part: Part) -> FormKind
     ensures { result ≡ unwrap_or (form_of part) FormKind.Program }
 {
     form(part).unwrap_or(FormKind::Program)
-}
-
-/// Where the first part stands that is one of two, of those side by side from a place on, with all that is below it.
-pub(crate) fn part_place(
-    entries: &[Entry<'_>],
-    from: usize,
-    first: Part,
-    second: Part,
-) -> Option<(usize, usize)>
-    ensures within { IfSome result (λ place. (place.0 < place.1) × (place.1 ≤ length entries.now)) }
-    ensures part { MatchOption result (either_among first second (map item (drop from entries.now)) ≡ []) (λ place. either_among first second (map item (drop from entries.now)) ≡ map item (take (place.1 - place.0) (drop place.0 entries.now)) ∷ either_among first second (map item (drop place.1 entries.now))) }
-{
-    let mut at = from;
-    while at < entries.len() {
-        let end = end_of(entries, at);
-        if is_either(entries[at].part, first, second) {
-            return Some((at, end));
-        }
-        at = end;
-    }
-    None
-}
-
-fn is_either(part: Part, first: Part, second: Part) -> bool
-    ensures { result ≡ is_either part first second }
-{
-    part == first || part == second
-}
-
-/// The first part directly below that is one of two, with all that is below it; empty where there is none.
-pub fn child<'p, 't>(entries: &'p [Entry<'t>], first: Part, second: Part) -> &'p [Entry<'t>]
-    ensures { map item result.now ≡ first_of_either first second (map item entries.now) }
-{
-    match part_place(entries, 1, first, second) {
-        None => &entries[entries.len()..],
-        Some((at, end)) => &entries[at..end],
-    }
-}
-
-/// Whether a part stands directly below.
-pub fn has(entries: &[Entry<'_>], part: Part) -> bool
-    ensures { result ≡ has_below part (map item entries.now) }
-{
-    match first(child(entries, part, part)) {
-        None => false,
-        Some(_) => true,
-    }
 }

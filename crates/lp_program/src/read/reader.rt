@@ -1,6 +1,6 @@
 //! The reader of programs: by the templates of the parts, from the front of the text on.
 
-ghost use Rattle.std.specs.Prelude.{◌≡◌, ℕ, ◌<◌, ◌≤◌, ◌+◌, ◌++◌, true, Some, None, List, [], length, drop, map, codes, IsTrue, MatchResult, IfErr, IfOk, OnOk, IfSome};
+ghost use Rattle.std.specs.Prelude.{◌≡◌, ℕ, ◌<◌, ◌≤◌, ◌+◌, ◌^◌, ◌++◌, min, true, Some, None, List, [], length, drop, map, codes, IsTrue, MatchResult, IfErr, IfOk, OnOk, IfSome};
 ghost use Rattle.std.specs.Bool.{Decides, OnTrue};
 ghost use Rattle.lp_form.specs.Templates.{holes_of, steps_of};
 ghost use Rattle.lp_form.specs.Templates as template;
@@ -9,6 +9,7 @@ ghost use Rattle.lp_form.specs.declared.part.Part.TheVariants as part_of;
 ghost use Rattle.lp_form.specs.declared.template.Step.TheVariants as step_of;
 ghost use Rattle.lp_spelling.specs.Counting.{front_line, settled};
 ghost use Rattle.lp_spelling.specs.Cursors.{left};
+ghost use Rattle.lp_spelling.specs.LineNumbers.{past_last};
 ghost use Rattle.lp_program.specs.Adding.{kids, Adds, Brings, FilledAt, IsPair, IsPart, MayHave, Opened, OwnTaken, Reread, StepBrings, StepsBring, WholeRead};
 ghost use Rattle.lp_program.specs.Answering.{AnswersTrees, AnswersSteps, held};
 ghost use Rattle.lp_program.specs.Begins.{Begins, IsUseFirst};
@@ -73,7 +74,8 @@ struct Reader<'t> {
     entries: Vec<Entry<'t>>,
 }
 
-/// The program that the text reads as. Its texts are borrowed from the text. Outside code, uses and
+/// The program that the text reads as: it reads so, and it is the one that is chosen by the lines in
+/// front. Its texts are borrowed from the text. Outside code, uses and
 /// attributes, blanks at the front of a line, empty lines and comment lines don't count; in table
 /// rows neither do blanks, line ends and what follows `//` after an entry.
 pub fn read_program<'t>(alloc: Global, text: &'t str) -> Result<Program<'t>, ReadFault>
@@ -90,21 +92,28 @@ pub fn read_program<'t>(alloc: Global, text: &'t str) -> Result<Program<'t>, Rea
         looked: 0,
         entries: Vec::new(alloc),
     };
+    let front = reader.cursor;
     if !reader.read_whole()? {
-        return Err(ReadFault::NoForm {
-            line: reader.looked,
-        });
+        let line = misfit_line(front, reader.looked);
+        return Err(ReadFault::NoForm { line });
     }
     let Some(prefix) = shown else {
-        return Err(ReadFault::NoForm {
-            line: reader.looked,
-        });
+        let line = misfit_line(front, reader.looked);
+        return Err(ReadFault::NoForm { line });
     };
     let Reader { entries, .. } = reader;
     Ok(Program {
         prefix: Piece::new(CowStr::Borrowed(prefix)),
         entries,
     })
+}
+
+/// The last line that was looked at, or one past the last.
+fn misfit_line(front: Cursor<'_>, looked: usize) -> usize
+    ensures line { result ≡ min looked (past_last front.entry.text.now) }
+    ensures small { looked < 2 ^ 64 }
+{
+    looked.min(front.past_last())
 }
 
 impl<'t> Reader<'t> {

@@ -5,4 +5,4 @@ use Rattle.lp_bodies.specs.Actions.{fallible_row, is_fallible}
 use Rattle.lp_bodies.proofs.action.is_fallible.Given as goal
 
 abbrev pub invariant-loop-row : goal.invariant-loop-row
-invariant-loop-row l = over fallible_row l.fallible (parts_left l.row-iterator) ≡ is_fallible (listed l.fn.header)
+invariant-loop-row l = over (fallible_row l.error) l.fallible (parts_left l.row-iterator) ≡ is_fallible l.error (listed l.fn.header)

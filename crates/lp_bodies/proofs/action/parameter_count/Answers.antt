@@ -7,7 +7,7 @@ pub loop-row-preserved : goal.loop-row-preserved
 loop-row-preserved c =
     let at = c.loop-row in
     let prefix = c.args.prefix.now in
-    over_step (counted_row prefix) at.count c.counted_row-count.result (parameter_count prefix (listed c.args.header)) c.next.result c.in-Some.row at.row-iterator c.next.new.self c.in-Some.is c.next.ensures.steps c.counted_row-count.ensures at.invariant
+    over_step (counted_row prefix) at.count c.in_ok-count.count (parameter_count prefix (listed c.args.header)) c.next.result c.in-Some.row at.row-iterator c.next.new.self c.in-Some.is c.next.ensures.steps c.in_ok-count.ensures at.invariant
 
 pub returns : goal.returns
 returns c =

@@ -6,4 +6,4 @@ use Rattle.lp_bodies.proofs.reduce.element_type.Given as goal
 
 abbrev pub invariant-loop-row : goal.invariant-loop-row
 invariant-loop-row l =
-    over (type_row l.before l.after) l.kind (parts_left l.row-iterator) ≡ element_type l.before l.after (listed l.fn.header)
+    over (type_row l.prefix l.before l.after) l.kind (parts_left l.row-iterator) ≡ element_type l.prefix l.before l.after (listed l.fn.header)

@@ -1,5 +1,6 @@
 use Rattle.lp_laws.proofs.Existing.{each_is_read, same_to_norm}
 use Rattle.lp_laws.proofs.Law.{reads_back, code_is_level, indent_returns}
+use Rattle.lp_laws.proofs.LaidReads.{laid_out, read_back}
 use Rattle.lp_laws.proofs.laws.programs.Goals as goal
 
 pub returns-clause-text : goal.returns-clause-text
@@ -16,3 +17,6 @@ returns-clause-read c = each_is_read
 
 pub returns-clause-codes : goal.returns-clause-codes
 returns-clause-codes c = same_to_norm
+
+pub returns-clause-lines : goal.returns-clause-lines
+returns-clause-lines c = λ text program. (laid_out text program, read_back text program)

@@ -1,5 +1,6 @@
-use Rattle.std.proofs.Common.{◌≡◌, length, arith}
-use Rattle.lp_run.specs.RunTold.{result_finish}
+use Rattle.std.proofs.Common.{◌≡◌, length, arith, subst}
+use Rattle.std.specs.Prelude.{All}
+use Rattle.lp_run.specs.RunTold.{IsCounted, result_finish}
 use Rattle.lp_run.proofs.Answering.{told_run, told_count}
 use Rattle.lp_run.proofs.run.run_counted.Goals as goal
 
@@ -11,4 +12,5 @@ returns-then-code-params c = λ program o enters.
 pub returns : goal.returns
 returns c = λ program o enters.
     let same : c.args.code.now.params ≡ length c.args.params.now = omega (arith, c.if-code-params.false) in
-    told_run c.args.items.now c.args.params.now c.args.failing.now c.args.budget program o c.args.code.now (result_finish c.run_code.result) enters same c.run_code.ensures
+    let counts : All IsCounted c.args.code.now.code.tables.items = subst (All IsCounted) c.as_slice.ensures.value c.see_counted.ensures in
+    told_run c.args.items.now c.args.params.now c.args.failing.now c.args.budget program o c.args.code.now (result_finish c.run_code.result) enters counts same c.run_code.ensures

@@ -39,4 +39,4 @@ unreachable-requires c =
     let refused : IsRunFault c.as_str.result.now c.as_slice-3.result.now c.as_slice-2.result.now (NoForm line)
     = subst (IsRunFault c.as_str.result.now c.as_slice-3.result.now c.as_slice-2.result.now) c.in-Err-NoForm.field-0-is c.in-Err-NoForm.ensures.fault in
     emission_is_not_refused c.args.file.now.lowered c.args.file.now.tables.items c.args.options.now (string_bytes c.in_ok-text.text) c.in_ok-text.ensures.text line
-    (subst (λ t. IsRefused t (read.NoForm line)) c.as_str.ensures.value refused)
+    (subst (λ t. IsRefused t (read.NoForm line)) c.as_str.ensures.value refused.0)

@@ -1,28 +1,15 @@
-use Rattle.std.proofs.Common.{◌≡◌, [], ◌++◌, ap, sym, ◌∙◌, arith}
-use Rattle.std.specs.Vec.Iter.{into_iter_items}
-use Rattle.lp_types.specs.Spelled.{marks_of}
-use Rattle.lp_types.proofs.Gathered.{gathered_more, gathered_broken, gathered_all, broken_by, whole_by, no_length}
+use Rattle.std.proofs.Common.{◌++◌, ap, ◌∙◌, arith}
+use Rattle.lp_types.proofs.Gathered.{gathered_more, gathered_broken, gathered_all, no_length}
 use Rattle.lp_types.proofs.tokens.with_codes.Goals as goal
 
-pub returns-then-is_some : goal.returns-then-is_some
-returns-then-is_some c =
-    let inside = c.in_ok-inside.inside in
-    let broken = broken_by inside.error (sym c.is_some.ensures ∙ c.if-is_some.true) in
-    let is = ap (λ l. marks_of l c.args.error) c.in-Some.ensures.steps.0 in
-    let added = c.in_ok-append.ensures.items ∙ ap (λ l. l ++ inside.list.items) c.in_ok-push.ensures.items in
-    gathered_broken _ _ inside.list.items _ inside.error broken.0 _ _ _ c.in-Some.spanned c.loop-spanned.invariant is c.in_ok-inside.ensures broken.1 added
+pub returns-in-None : goal.returns-in-None
+returns-in-None c = gathered_all _ _ _ _ c.loop-turn.invariant (no_length c.loop-turn.pending.items (omega (arith, c.in-None.ensures.cases.0)))
 
-pub loop-spanned-preserved : goal.loop-spanned-preserved
-loop-spanned-preserved c =
-    let inside = c.in_ok-inside.inside in
-    let whole = whole_by inside.error (sym c.is_some.ensures ∙ c.if-is_some.false) in
-    let is = ap (λ l. marks_of l c.args.error) c.in-Some.ensures.steps.0 in
-    let added = c.in_ok-append.ensures.items ∙ ap (λ l. l ++ inside.list.items) c.in_ok-push.ensures.items in
-    gathered_more _ _ inside.list.items _ inside.error _ _ _ _ c.in-Some.spanned c.loop-spanned.invariant is c.in_ok-inside.ensures whole c.after-place.ensures added
+pub returns-in-Some-Err : goal.returns-in-Some-Err
+returns-in-Some-Err c = gathered_broken _ _ _ _ _ c.in-Some-Err.error c.loop-turn.invariant (rw c.in-Some-Err.field-0-is at c.in-Some-Err.ensures.items)
 
-pub returns : goal.returns
-returns c =
-    let ok = c.loop-spanned.spanned-iterator.rest.ok in
-    let h = c.in-None.ensures.steps in
-    let none : into_iter_items c.loop-spanned.spanned-iterator ≡ [] = no_length (into_iter_items c.loop-spanned.spanned-iterator) (omega arith) in
-    gathered_all _ _ _ _ _ c.loop-spanned.invariant (ap (λ l. marks_of l c.args.error) none)
+pub loop-turn-preserved : goal.loop-turn-preserved
+loop-turn-preserved c =
+    let taken = rw c.in-Some-Ok.field-0-is at c.in-Some-Ok.ensures.items in
+    let follows = c.in_ok-append-in-Some-Ok.ensures.items ∙ ap (λ l. c.pop.new.self.items ++ l) c.reverse-in-Some-Ok.ensures.items in
+    gathered_more _ _ _ _ c.in_ok-inside-in-Some-Ok.inside.items _ _ _ _ c.in-Some-Ok.spanned c.loop-turn.invariant taken c.in_ok-inside-in-Some-Ok.ensures c.after-place.ensures c.in_ok-push-in-Some-Ok.ensures.items follows

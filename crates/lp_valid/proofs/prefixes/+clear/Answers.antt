@@ -1,8 +1,8 @@
-use Rattle.std.proofs.Common.{◌≡◌, ◌∙◌, ◌||◌, ◌&&◌, List, false, true, sym, ap}
+use Rattle.std.proofs.Common.{◌∙◌, ◌||◌, ◌&&◌, List, false, true, sym, ap}
 use Rattle.std.specs.List.{list_all}
 use Rattle.lp_repr.specs.declared.parse_tree.TypeParameter.{TypeParameter}
 use Rattle.lp_valid.specs.PrefixParts.{is_clear_nominal}
-use Rattle.lp_valid.specs.PrefixRules.{is_clear, is_clear_head, is_error_type}
+use Rattle.lp_valid.specs.PrefixRules.{is_clear, is_clear_head}
 use Rattle.lp_valid.proofs.ClearTypes.{tuple_clear, nominal_clear, object_clear, fn_known}
 use Rattle.lp_valid.proofs.prefixes.+clear.Goals as goal
 
@@ -20,11 +20,13 @@ is_clear-returns-else-is_error_type t c =
     c.is_clear_nominal.ensures
     ∙ (ap (λ b. b || is_clear_nominal p ts n) (sym c.if-is_error_type.false ∙ c.is_error_type.ensures) ∙ (sym (nominal_clear p ts n) ∙ ap (is_clear p ts) (sym c.in-Nominal.is)))
 
-pub is_clear-returns-in-TraitObject : goal.is_clear-returns-in-TraitObject
-is_clear-returns-in-TraitObject t c =
+pub is_clear-returns-then-lacks : goal.is_clear-returns-then-lacks
+is_clear-returns-then-lacks t c =
     let p = c.args.forbidden.now.prefix.now in
     let ts = c.args.forbidden.now.types.now in
-    c.is_clear_nominal-in-TraitObject.ensures ∙ (sym (object_clear p ts c.in-TraitObject.nominal) ∙ ap (is_clear p ts) (sym c.in-TraitObject.is))
+    let n = c.in-TraitObject.nominal in
+    c.is_clear_nominal-then-lacks.ensures
+    ∙ (ap (λ b. b && is_clear_nominal p ts n) (sym c.if-lacks.true ∙ c.lacks.ensures) ∙ (sym (object_clear p ts n) ∙ ap (is_clear p ts) (sym c.in-TraitObject.is)))
 
 pub is_clear-returns-then-not-are_clear_types : goal.is_clear-returns-then-not-are_clear_types
 is_clear-returns-then-not-are_clear_types t c =

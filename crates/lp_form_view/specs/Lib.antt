@@ -1,9 +1,0 @@
-pub mod ActionForms
-pub mod AscentForms
-pub mod Found
-pub mod HeadForms
-pub mod HeldForms
-pub mod HeldPieces
-pub mod MachineForms
-pub mod TableForms
-pub mod ViewTold

@@ -1,5 +1,0 @@
-//! Worked examples of lowering.
-#![tactic(auto)]
-
-#[cfg(test)]
-mod lowered;

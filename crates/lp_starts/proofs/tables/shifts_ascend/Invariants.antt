@@ -1,6 +1,0 @@
-use Rattle.std.proofs.Common.{take}
-use Rattle.lp_starts.specs.Tables.{ShiftsAscend}
-use Rattle.lp_starts.proofs.tables.shifts_ascend.Given as goal
-
-abbrev pub invariant-loop-state : goal.invariant-loop-state
-invariant-loop-state l = ShiftsAscend (take l.state-index l.states)

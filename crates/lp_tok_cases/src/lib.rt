@@ -1,5 +1,0 @@
-//! Worked examples of tokens, cuts and escapes.
-#![tactic(auto)]
-
-#[cfg(test)]
-mod tokens;
