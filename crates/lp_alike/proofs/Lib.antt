@@ -1,5 +1,6 @@
 pub mod Bounds
 pub mod Counted
+pub mod Rates
 pub mod Places
 pub mod Looked
 pub mod Reduced

@@ -21,7 +21,7 @@ use Rattle.lp_paths.specs.Over.{IsOver}
 use Rattle.lp_paths.proofs.Stacks.{path_first}
 use Rattle.lp_alike.specs.Answered.{Answered, Tells, Lacks, AnswersBy}
 use Rattle.lp_alike.specs.Course as course
-use Rattle.lp_alike.specs.Course.{AreKnown, machine_at, Stands, Follows}
+use Rattle.lp_alike.specs.Course.{AreKnown, Parses, extra, rate, machine_at, Stands, Follows}
 use Rattle.lp_alike.specs.Runs.{Course, Comes, Stops}
 use Rattle.lp_alike.proofs.Bounds.{bounded, run_bound}
 use Rattle.lp_alike.proofs.Places.{none_alike}
@@ -41,13 +41,13 @@ module _ {S D : Type 0} (answers : Answers S D) (left : D → ℕ) (is_stuck : D
 
 module _ {S D U : Type 0} (answers : Answers S D) (left : D → ℕ) (seen : D → List U) (Ready : D → Type 0) (told : Call → U)
     {g : Grammar} {start : ℕ} {states : List Lr1State} {t : Tables} (over_tables : IsOver g start states t) (Is : SymbolNumber → S → Value → Type 0) (Known : Token → Type 0) (cost : ℕ)
-    (by : AnswersBy answers left seen Ready told g states t Is Known cost) (no_error : t.error ≡ None) (trial : t.expecting ≡ Trial) (items : List RunItem) (known : AreKnown Known items)
+    (by : AnswersBy answers left seen Ready told g states t Is Known cost) (trial : t.expecting ≡ Trial) (items : List RunItem) (known : AreKnown Known items)
     (is_stuck : D → Bool) (law : IsLawful answers left is_stuck) where
   abbrev To : D → Next S D → Type 0
   To d next = Course left seen told t cost items d next
 
   none_called : (first t items).calls ≡ []
-  none_called = ready_keeps t items (machine_at (0 ∷ []) [] [] 0 None Default)
+  none_called = ready_keeps t items (machine_at (0 ∷ []) [] [] 0 None None Default)
 
   -- a question before the turns
   started : {A : Type 0} (d0 d : D) (used most : ℕ) (Good : A → Type 0) (said : Said A D) (go : A → D → Next S D)
@@ -56,13 +56,13 @@ module _ {S D U : Type 0} (answers : Answers S D) (left : D → ℕ) (seen : D �
       → Answered left seen Ready d most (seen d) Good said → To d0 (on_answer said go)
   started d0 d used most Good _ go none le few more low h (Tells x after r l s good) = h x after r (omega arith) (omega arith) (s ∙ none) good
   started d0 d used most Good _ go none le few more low h (Lacks after l front) =
-      Stops after 0 (front.0, ap (map told) none_called ∙ sym none ∙ front.1) (λ k e over. bounded (left d0) (5 * cost) k (omega arith))
+      Stops after 0 (front.0, ap (map told) none_called ∙ sym none ∙ front.1) (λ k e over. bounded (left d0) (rate t * cost) k (omega arith))
 
   begun_course : (d0 d : D) (next : Next S D) → left d0 ≤ left d + 2 * cost → ((w : Driver S) (x : D) → next ≡ Goes_on w x → ⊥)
-      → Follows left seen Ready told states t Is Known cost items (first t items) d next → To d0 next
+      → Follows left seen Ready told states t Is Known cost items (3 + extra t) (first t items) d next → To d0 next
   begun_course d0 d _ le never (course.Goes w x b n s l h) = absurd (never w x refl)
   begun_course d0 d _ le never (course.Comes e x m so calls) = Comes e x m so calls
-  begun_course d0 d _ le never (course.Stops x m front bound) = Stops x m front (λ k e h. run_bound (left d0) (left d) cost k le (bound k e h))
+  begun_course d0 d _ le never (course.Stops x m front bound) = Stops x m front (λ k e h. run_bound (left d0) (left d) cost (extra t) k le (bound k e h))
 
   -- a run from no calls comes where the machine comes
   pub run_follows : (d : D) → Ready d → seen d ≡ [] → To d (run answers (suc (left d)) items d)
@@ -72,21 +72,20 @@ module _ {S D U : Type 0} (answers : Answers S D) (left : D → ℕ) (seen : D �
       (λ s y ry ly my sy is_s. subst (λ (a : Loc). To d (turns answers (suc (left d)) (driver.first answers items a s) y)) (sym is_a)
       (subst (λ (s : ℤ). To d (turns answers (suc (left d)) (driver.first answers items Default s) y)) (sym is_s)
       (begun_course d y _ (omega arith) (λ w z e. never_on answers left is_stuck law (suc (left d)) (driver.first answers items Default (pos 0)) y w z (omega arith) e)
-      (turns_follow answers left seen Ready told over_tables Is Known cost by no_error trial items known (suc (left d)) (driver.first answers items Default (pos 0)) y (first t items) (record {
+      (turns_follow answers left seen Ready told over_tables Is Known cost by trial items known (suc (left d)) (driver.first answers items Default (pos 0)) y (first t items) (record {
         stack = 0 ∷ [];
         symbols = [];
         mine = [];
         triples = [];
         calls = [];
         taken = 0;
-        hand = None;
-        begin = Default;
+        phase = Parses None;
         last = Default;
         driver = refl;
         machine = refl;
         path = path_first states;
         alike = none_alike Is;
-        held = tt;
+        fits = tt;
         is_ready = ry;
         called = sy;
       })))))

@@ -1,5 +1,5 @@
 -- Where a parse begins, and whether errors are mended: each a method whose call is one step.
-use Rattle.std.proofs.Common.{◌≡◌, ℕ, suc, ◌≤◌, ℤ, pos, false, Bool, [], Option, Some, refl, ap, ◌∙◌}
+use Rattle.std.proofs.Common.{◌≡◌, ℕ, suc, ◌≤◌, ℤ, pos, Bool, [], Option, Some, refl, ap, ◌∙◌}
 use Rattle.std.specs.Prelude.{slice_get}
 use Rattle.std.specs.Option.{option_map}
 use Rattle.lp_repr.specs.declared.values.Loc.TheVariants.{Default}
@@ -53,6 +53,6 @@ module _ (asked : Asking) (methods : Methods) (closure : Option ℕ) (d : Runner
   state_replies kind is there =
       asks_replies asked methods closure state_of d.methods.start_state [] d most (λ x. x ≡ pos 0) 1 (number kind (pos 0)) (asking_over [] d) (pos 0) h (state_ends d d.methods.start_state kind is there) refl refl refl few
 
-  pub recovery_replies : slice_get d.asked.program.functions d.methods.uses_error_recovery ≡ Some (function 0 0 (tree.Plain (leaf.Bool false))) → Replies asked methods closure d most (λ x. x ≡ false) (program_answers Uses_recovery d)
-  recovery_replies there =
-      asks_replies asked methods closure truth_of d.methods.uses_error_recovery [] d most (λ x. x ≡ false) 1 (truth false) (asking_over [] d) false h (truth_ends d d.methods.uses_error_recovery false there) refl refl refl few
+  pub recovery_replies : (b : Bool) → slice_get d.asked.program.functions d.methods.uses_error_recovery ≡ Some (function 0 0 (tree.Plain (leaf.Bool b))) → Replies asked methods closure d most (λ x. x ≡ b) (program_answers Uses_recovery d)
+  recovery_replies b there =
+      asks_replies asked methods closure truth_of d.methods.uses_error_recovery [] d most (λ x. x ≡ b) 1 (truth b) (asking_over [] d) b h (truth_ends d d.methods.uses_error_recovery b there) refl refl refl few

@@ -77,7 +77,7 @@ pub end_at : (states : List Lr1State) (q : ℕ) (s : Lr1State) → slice_get sta
 end_at states q s at =
     slice_get-map end_entry states q ∙ ap (option_map end_entry) at ∙ ap Some (sym (ap (λ (o : Option Lr1State). entry (act_in o Eof)) at ∙ end_is s))
 
-get_behind : {X : Type 0} (xs ys : List X) (j : ℕ) → slice_get (xs ++ ys) (length xs + j) ≡ slice_get ys j
+pub get_behind : {X : Type 0} (xs ys : List X) (j : ℕ) → slice_get (xs ++ ys) (length xs + j) ≡ slice_get ys j
 get_behind [] ys j = (let none : 0 + j ≡ j = omega arith in ap (slice_get ys) none)
 get_behind (x ∷ xs) ys j = (let next : suc (length xs) + j ≡ suc (length xs + j) = omega arith in ap (slice_get (x ∷ (xs ++ ys))) next ∙ get_behind xs ys j)
 

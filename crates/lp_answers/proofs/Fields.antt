@@ -10,7 +10,11 @@ use Rattle.lp_repr.specs.declared.numbering.SymbolNumber.{SymbolNumber}
 use Rattle.lp_repr.specs.declared.numbering.SymbolNumber.TheVariants.{Terminal, Nonterminal}
 use Rattle.lp_repr.specs.declared.repr.Grammar.{Grammar}
 use Rattle.lp_driver.specs.DriverState.{last_of}
-use Rattle.lp_driver.specs.Questions.{Action, Eof_action}
+use Rattle.lp_driver.specs.declared.answers.Expecting.{Expecting}
+use Rattle.lp_driver.specs.Questions.{Action, Error_action, Eof_action}
+use Rattle.lp_driver.specs.Values.{Text}
+use Rattle.lp_machine.specs.ExpectedList.{action_on_error, action_on_error_of}
+use Rattle.lp_machine.specs.GrammarTables.{error_of, grammar_tables}
 use Rattle.lp_machine.specs.Lookup.{act_at}
 use Rattle.lp_parts.specs.Entries.{action_entries}
 use Rattle.lp_maker.specs.declared.methods.Methods.{Methods}
@@ -18,6 +22,7 @@ use Rattle.lp_table.specs.Starts.{Start}
 use Rattle.lp_turns.specs.Asking.{Asking}
 use Rattle.lp_turns.specs.declared.runner.Runner.{Runner}
 use Rattle.lp_turns.specs.DriverCall.{program_answers}
+use Rattle.lp_valid.specs.ValidGrammar.{IsValidGrammar}
 use Rattle.lp_view.specs.PartLists.{Form}
 use Rattle.lp_paths.specs.Standing.{IsOnPath}
 use Rattle.lp_paths.specs.Walks.{edge_from, IsWalk, end_of}
@@ -26,7 +31,8 @@ use Rattle.lp_paths.proofs.Stacks.{path_top}
 use Rattle.lp_alike.specs.Answered.{entry}
 use Rattle.lp_asked.specs.Runners.{Asks, Replies}
 use Rattle.lp_goto_slice.proofs.StateTypes.{numbers_of}
-use Rattle.lp_answers.proofs.Built.{RunsBuilt, eof_answered, action_answered}
+use Rattle.lp_answers.proofs.Built.{RunsBuilt, eof_answered, action_answered, error_action_answered}
+use Rattle.lp_answers.proofs.Errors.{error_last}
 use Rattle.lp_answers.proofs.Fits.{entry_fits}
 
 module _ (g : Grammar) (start : ℕ) (states : List Lr1State) (valid : IsValidTables g start states) where
@@ -43,7 +49,7 @@ module _ (g : Grammar) (start : ℕ) (states : List Lr1State) (valid : IsValidTa
   walked_within q (p ∷ ps) (x ∷ xs) w lt = walked_within p ps xs w.1 (edge_within q (slice_get states q) x p refl w.0)
 
   -- the top of a path is the number of a state
-  top_within : 0 < length states → (stack : List ℕ) (q : ℕ) → IsOnPath states stack → last_of stack ≡ Some q → q < length states
+  pub top_within : 0 < length states → (stack : List ℕ) (q : ℕ) → IsOnPath states stack → last_of stack ≡ Some q → q < length states
   top_within some stack q path top =
       let path_is = path.1 in
       let same : end_of 0 path_is.rest ≡ q = same_Some (end_of 0 path_is.rest) q (sym (path_top states stack path.0 path_is) ∙ top) in
@@ -65,4 +71,16 @@ module _ (g : Grammar) (start : ℕ) (states : List Lr1State) (valid : IsValidTa
         let types = numbers_of (length states) (length (productions_of g)) states_fit productions_fit in
         let lt = top_within some stack q path top in
         let s = at_within states q lt in
-        action_answered runs closure d h most (omega arith) few types.kind types.read q i s.0 s.1 below terminals_fit counted (types.holds q (omega arith)) (entry_fits g start states valid types q s.0 s.1 (lr.Terminal i))
+        action_answered runs closure d h most (omega arith) types.kind types.read q i s.0 s.1 below terminals_fit counted (entry_fits g start states valid types q s.0 s.1 (lr.Terminal i)) few (types.holds q (omega arith))
+
+    -- where errors are mended
+    pub error_field : IsValidGrammar g → length (terminals_of g) < 2 ^ 64 → length (action_entries (length (terminals_of g)) states) < 2 ^ 64 → (expecting : Expecting) (params : List Text) (failing : List ℕ) (e : ℕ) → error_of g ≡ Some e
+        → (stack : List ℕ) (q : ℕ) → IsOnPath states stack → last_of stack ≡ Some q → (d : Runner) → Asks asked methods closure d
+        → Replies asked methods closure d most (λ x. x ≡ entry (action_on_error (grammar_tables g states expecting params failing) (Some q))) (program_answers (Error_action (pos q)) d)
+    error_field rules terminals_fit counted expecting params failing e mended stack q path top d h =
+        let types = numbers_of (length states) (length (productions_of g)) states_fit productions_fit in
+        let lt = top_within some stack q path top in
+        let s = at_within states q lt in
+        let last = error_last g rules e mended in
+        subst (λ (o : Option ℕ). Replies asked methods closure d most (λ x. x ≡ entry (action_on_error_of (grammar_tables g states expecting params failing) o (Some q))) (program_answers (Error_action (pos q)) d)) (sym mended)
+        (error_action_answered runs closure d h most (omega arith) types.kind types.read q e s.0 s.1 (omega arith) terminals_fit counted (entry_fits g start states valid types q s.0 s.1 (lr.Terminal e)) few (types.holds q (omega arith)) last)

@@ -1,7 +1,12 @@
+pub mod Errors
+pub mod Terminals
+pub mod Recovering
 pub mod Looks
+pub mod Lasts
 pub mod Methods
 pub mod Entries
 pub mod Fits
 pub mod Built
 pub mod Begins
 pub mod Fields
+pub mod ErrorSymbol

@@ -64,3 +64,8 @@ module _ (p : Program) (f k q i : ℕ) (kind : StateType) (m : Moment) (v : Val)
 pub handed_on : (p : Program) (f k j : ℕ) (a b v : Val) (m : Moment) → slice_get p.functions f ≡ Some (function 2 0 (called (takes 2) (Some k))) → set_value a ≡ Some a → set_value b ≡ Some b
     → ((n : Moment) → EndsIn p (Enter k (a ∷ b ∷ [])) n j (Giving v n)) → EndsIn p (Enter f (a ∷ b ∷ [])) m (suc j) (Giving v m)
 handed_on p f k j a b v m is set_a set_b h = enter is refl (call (argument (take refl set_a) (argument (take refl set_b) (arguments_done (h _))))) refl
+
+-- a method that hands one argument on with a number
+pub handed_with : (p : Program) (f k j i : ℕ) (a v : Val) (m : Moment) → slice_get p.functions f ≡ Some (function 1 0 (called (constructs.take_slot 0 ∷ constructs.index (Some i) ∷ []) (Some k))) → set_value a ≡ Some a
+    → ((n : Moment) → EndsIn p (Enter k (a ∷ index i ∷ [])) n j (Giving v n)) → EndsIn p (Enter f (a ∷ [])) m (suc j) (Giving v m)
+handed_with p f k j i a v m is set_a h = enter is refl (call (argument (take refl set_a) (argument (plain refl) (arguments_done (h _))))) refl

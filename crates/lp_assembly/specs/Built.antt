@@ -1,5 +1,5 @@
 -- The program that a grammar and its states determine.
-use Rattle.std.specs.Prelude.{◌≡◌, ℕ, zero, suc, List, [], ◌∷◌, ◌++◌, length, map, slice_get, codes, Option, Some, None, All}
+use Rattle.std.specs.Prelude.{◌≡◌, ℕ, Bool, zero, suc, List, [], ◌∷◌, ◌++◌, length, map, slice_get, codes, Option, Some, None, All}
 use Rattle.std.specs.List.{flat_map, join_by}
 use Rattle.lp_form.specs.declared.part.Part.TheVariants as part
 use Rattle.lp_repr.specs.Escapes.{escaped_text}
@@ -118,7 +118,7 @@ triple_lines g = triple_lines_by g (joined_clauses g.where_clauses) (implementat
 abbrev pub AllFit : List StartStates → Type 0
 AllFit states = All (λ list. All EntriesFit list.states) states
 
--- the program of a grammar and its states: its prefix, its parts, and the notes of these
+-- the program of a grammar and its states: its prefix, its parts, and the notes of these, with comments or without
 pub record IsBuilt (g : Grammar) (states : List StartStates) (program : Program) : Type 0 where
   pub prefix : program.prefix ≡ g.prefix
   pub modules : List Item
@@ -126,4 +126,9 @@ pub record IsBuilt (g : Grammar) (states : List StartStates) (program : Program)
   pub parts :
       program_items program
       ≡ over part.Program [] ((((front_lines g ++ modules) ++ token_lines g g.intern_token) ++ action_functions g) ++ triple_lines g)
-  pub notes : program_notes program ≡ notes_of_program g states (program_items program)
+  pub comments : Bool
+  pub notes : program_notes program ≡ notes_of_program comments g states (program_items program)
+
+-- it is built with comments, or without
+abbrev pub IsBuiltWith : Bool → Grammar → List StartStates → Program → Type 0
+IsBuiltWith comments g states program = (is : IsBuilt g states program) × (is.comments ≡ comments)

@@ -5,7 +5,7 @@ ghost use Rattle.std.specs.BTreeMap.{btree_map_len};
 ghost use Rattle.std.specs.List.{flat_map};
 ghost use Rattle.std.specs.Map.Iter.{deref_pair};
 ghost use Rattle.lp_actions.specs.Parameters.{AreTypesOf};
-ghost use Rattle.lp_assembly.specs.Built.{AllFit, AreFollowed, AreModules, IsBuilt, IsModule, IsModuleWithName, attribute_lines, front_lines, implementations, joined_clauses, reexport_lines, token_lines, triple_lines, use_lines};
+ghost use Rattle.lp_assembly.specs.Built.{AllFit, AreFollowed, AreModules, IsBuiltWith, IsModule, IsModuleWithName, attribute_lines, front_lines, implementations, joined_clauses, reexport_lines, token_lines, triple_lines, use_lines};
 ghost use Rattle.lp_parts.specs.Entries.{EntriesFit};
 ghost use Rattle.lp_repr.specs.ShownTypes.{clause_text};
 ghost use Rattle.lp_tree.specs.ProgramTree.{items};
@@ -24,14 +24,16 @@ use lp_table::{BackEnd, TableBackEnd};
 use lp_tree::{Node, Piece, Program};
 use std::alloc::{AllocError, Global};
 
-/// The program of a grammar and its states, which has a parser for each start. The error is want of memory.
+/// The program of a grammar and its states, which has a parser for each start. Its comments are made where
+/// they are asked for. The error is want of memory.
 pub fn build_program<'t>(
     alloc: Global,
     grammar: &'t Grammar,
     states: &'t [StartStates],
+    comments: bool,
 ) -> Result<Program<'t>, AllocError>
     requires { AllFit states.now }
-    ensures { IfOk result (IsBuilt grammar.entry.now states.entry.now) }
+    ensures { IfOk result (IsBuiltWith comments grammar.entry.now states.entry.now) }
 {
     let mut below = Vec::new(alloc);
     add_front(alloc, &mut below, grammar)?;
@@ -40,7 +42,7 @@ pub fn build_program<'t>(
     put_all(&mut below, action_functions(alloc, grammar)?)?;
     put(&mut below, triples(alloc, grammar)?)?;
     let bare = program(alloc, lent(grammar.prefix.as_str()), below)?;
-    noted_program(alloc, grammar, states, bare)
+    noted_program(alloc, grammar, states, comments, bare)
 }
 
 /// Adds what stands before the modules.

@@ -4,6 +4,7 @@ ghost use Rattle.std.specs.Prelude.{◌≡◌, ◌<◌, All, IfSome, IsSome, cod
 ghost use Rattle.std.specs.BTreeMap.{btree_map_len};
 ghost use Rattle.lp_notes.specs.Notes.{notes_of_module};
 ghost use Rattle.lp_parts.specs.Entries.{EntriesFit};
+ghost use Rattle.lp_write.specs.Writes.{options_of};
 ghost use Rattle.lp_codegen.specs.Printing.{PrintsNode, start_number};
 
 use lp_ascent::AscentBackEnd;
@@ -29,7 +30,7 @@ pub fn compile<'t, W: Sink>(
     requires start { IsSome (start_number grammar.now user_start_symbol.now start_symbol.now) }
     requires entries { All EntriesFit states.now }
     requires action_module { action_module.now ≡ codes "super" }
-    ensures { IfSome (start_number grammar.entry.now user_start_symbol.entry.now start_symbol.entry.now) (λ start. PrintsNode W.told (⟦<AscentBackEnd as BackEnd>⟧.IsBuilt grammar.entry.now states.entry.now start) (notes_of_module grammar.entry.now states.entry.now) grammar.entry.now.prefix out.old out.new result) }
+    ensures { IfSome (start_number grammar.entry.now user_start_symbol.entry.now start_symbol.entry.now) (λ start. PrintsNode W.told (⟦<AscentBackEnd as BackEnd>⟧.IsBuilt grammar.entry.now states.entry.now start) (notes_of_module (options_of out.old).comments grammar.entry.now states.entry.now) grammar.entry.now.prefix out.old out.new result) }
 {
     let _in_super = action_module;
     let start = start_number(grammar, user_start_symbol, start_symbol).unwrap();
@@ -60,9 +61,9 @@ fn print_module<'t, B: BackEnd, W: Sink>(
 ) -> Result<(), WriteError>
     requires start { start < btree_map_len grammar.now.start_nonterminals }
     requires accepts { B.Accepts grammar.now states.now }
-    ensures { PrintsNode W.told (B.IsBuilt grammar.entry.now states.entry.now start) (notes_of_module grammar.entry.now states.entry.now) grammar.entry.now.prefix out.old out.new result }
+    ensures { PrintsNode W.told (B.IsBuilt grammar.entry.now states.entry.now start) (notes_of_module (options_of out.old).comments grammar.entry.now states.entry.now) grammar.entry.now.prefix out.old out.new result }
 {
     let bare = back_end.build_module(alloc, grammar, start, states)?;
-    let node = noted_module(alloc, grammar, states, bare)?;
+    let node = noted_module(alloc, grammar, states, out.options().comments, bare)?;
     print_node(alloc, grammar.prefix.as_str(), &node, out)
 }

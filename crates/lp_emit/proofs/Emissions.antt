@@ -5,11 +5,13 @@ use Rattle.lp_repr.specs.declared.lr1.StartStates.{StartStates}
 use Rattle.lp_repr.specs.declared.repr.Grammar.{Grammar}
 use Rattle.lp_tree.specs.declared.tree.Program.{Program}
 use Rattle.lp_write.specs.declared.rust.Options.{Options}
-use Rattle.lp_assembly.specs.Built.{IsBuilt}
+use Rattle.lp_assembly.specs.Built.{IsBuilt, IsBuiltWith}
 use Rattle.lp_fitting.specs.Fitting.{IsFitting}
 use Rattle.lp_laws.specs.Laws.{text_of}
 use Rattle.lp_emitted.specs.Emittable.{IsEmittable}
 use Rattle.lp_emitted.proofs.Fitting.{emitted_reads_back}
+use Rattle.lp_filled.specs.InMemory.{IsInMemory}
+use Rattle.lp_filled.proofs.Emission.{emission_agrees}
 use Rattle.lp_emit.specs.Causes.{MayBeEmitted, Refuses}
 use Rattle.lp_emit.specs.Misfits.{RefusesProgram}
 use Rattle.lp_emit.specs.Texts.{IsEmission}
@@ -22,17 +24,19 @@ emittable g states m = record { start = m.buildable.sound.0.0; valid = m.buildab
 
 pub emission :
     {S E : Type 0} (g : Grammar) (states : List StartStates) (options : Options) (bytes : S → List ℕ) (utf8 : (s : S) → IsUtf8 (bytes s)) (result : Result S E) (program : Program) →
-    MayBeEmitted g states → IsBuilt g states program → IsFitting program → IfOk result (λ t. bytes t ≡ text_of options program) →
+    MayBeEmitted g states → IsInMemory g → IsBuiltWith options.comments g states program → IsFitting program → IfOk result (λ t. bytes t ≡ text_of options program) →
     IfOk result (λ t. IsEmission g states options (bytes t))
-emission g states options bytes utf8 (Ok t) program may is fits same = record {
+emission g states options bytes utf8 (Ok t) program may memory (is, commented) fits same = record {
   program = program;
   built = is;
+  commented = commented;
   fitting = fits;
   printed = same;
   utf8 = utf8 t;
   reads = λ read back. subst (λ text. ReadsAs text read) (sym same) (emitted_reads_back g states program options read (emittable g states may) is fits back);
+  agrees = λ by read printed. emission_agrees g states options by memory (emittable g states may) program read is fits printed;
 }
-emission g states options bytes utf8 (Err e) program may is fits same = same
+emission g states options bytes utf8 (Err e) program may memory is fits same = same
 
 -- what is refused of the program that is built is refused of the grammar and its states
 pub refuses : (g : Grammar) (states : List StartStates) (program : Program) (error : EmitError) → MayBeEmitted g states → IsBuilt g states program → RefusesProgram g program error → Refuses g states error

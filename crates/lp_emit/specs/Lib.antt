@@ -3,4 +3,5 @@ pub mod Clashes
 pub mod Lists
 pub mod Misfits
 pub mod Steps
+pub mod Growing
 pub mod Texts

@@ -8,18 +8,20 @@ ghost use Rattle.lp_laws.specs.Laws.{text_of};
 ghost use Rattle.lp_write.specs.Sinks.{Took};
 
 use crate::checks::{check, check_fit};
+use crate::counted::see_counted;
 use crate::errors::EmitError;
+use crate::growing::GrowingSink;
 use lp_assembly::build_program;
 use lp_program::print_program;
 use lp_repr::StartStates;
 use lp_repr::repr::Grammar;
 use lp_tree::Program;
 use lp_write::sinks::write_all;
-use lp_write::{CountSink, Failed, MemorySink, Options, RustWrite, Sink, WriteError};
+use lp_write::{Failed, Options, RustWrite, Sink, WriteError};
 use std::alloc::Global;
 
 /// Appends the text of the parsers of a grammar and its states, one list per start. The text is
-/// measured and made whole in memory before the first byte is written. It reads as the program that is
+/// made whole in memory before the first byte is written. It reads as the program that is
 /// built of them: that each text in the program may stand where it does is looked at before it is
 /// printed.
 pub fn emit_parsers<K: Sink>(
@@ -55,48 +57,32 @@ pub fn emitted_text(
     ensures text { IfOk result (λ text. IsEmission grammar.now states.now options.now (string_bytes text)) }
 {
     check(alloc, grammar, states)?;
-    let program = build_program(alloc, grammar, states)?;
+    see_counted(alloc, grammar)?;
+    let program = build_program(alloc, grammar, states, options.comments)?;
     check_fit(alloc, grammar, &program)?;
     printed(alloc, &program, *options)
 }
 
-/// The text of a program, made in as much memory as it takes.
+/// The text of a program, made in memory that grows.
 fn printed(alloc: Global, program: &Program<'_>, options: Options) -> Result<String, EmitError>
     ensures memory { IfErr result (λ error. error ≡ Memory) }
     ensures text { IfOk result (λ text. string_bytes text ≡ text_of options program.now) }
 {
-    let room = measured(alloc, program, options)?;
-    let bytes = written(alloc, program, options, room)?;
+    let bytes = written(alloc, program, options)?;
     String::from_utf8(bytes).map_err(|_| EmitError::Memory)
 }
 
-/// The length of the text of a program.
-fn measured(alloc: Global, program: &Program<'_>, options: Options) -> Result<usize, EmitError>
-    ensures { IfErr result (λ error. error ≡ Memory) }
-{
-    let mut measure = RustWrite::new(CountSink::new(), options);
-    print_program(alloc, program, &mut measure).map_err(as_memory)?;
-    usize::try_from(measure.into_inner().total()).map_err(|_| EmitError::Memory)
-}
-
-/// The bytes of the text of a program, if so many are enough.
-fn written(
-    alloc: Global,
-    program: &Program<'_>,
-    options: Options,
-    room: usize,
-) -> Result<Vec<u8>, EmitError>
+/// The bytes of the text of a program.
+fn written(alloc: Global, program: &Program<'_>, options: Options) -> Result<Vec<u8>, EmitError>
     ensures memory { IfErr result (λ error. error ≡ Memory) }
     ensures bytes { IfOk result (λ bytes. bytes.items ≡ text_of options program.now) }
 {
-    let failing = Vec::new(alloc);
-    let sink = MemorySink::new(alloc, room, usize::MAX, failing)?;
-    let mut text = RustWrite::new(sink, options);
+    let mut text = RustWrite::new(GrowingSink::new(alloc), options);
     print_program(alloc, program, &mut text).map_err(as_memory)?;
     Ok(text.into_inner().into_bytes())
 }
 
-/// A sink in memory with room for the whole text doesn't fail.
+/// A sink in memory fails for want of it.
 fn as_memory(_error: WriteError) -> EmitError
     ensures { result ≡ Memory }
 {

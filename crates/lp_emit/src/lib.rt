@@ -3,8 +3,10 @@
 
 pub mod checks;
 pub mod clash;
+mod counted;
 pub mod emit;
 pub mod errors;
+mod growing;
 
 pub use emit::{emit_parsers, emitted_text};
 pub use errors::EmitError;

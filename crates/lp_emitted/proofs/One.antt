@@ -1,5 +1,5 @@
 -- What is built of a grammar and its states has one text.
-use Rattle.std.proofs.Common.{◌≡◌, ℕ, zero, suc, List, [], ◌∷◌, ◌++◌, length, map, take, drop, Option, Some, None, slice_get, refl, sym, ap, ◌∙◌, subst, arith}
+use Rattle.std.proofs.Common.{◌≡◌, Bool, ℕ, zero, suc, List, [], ◌∷◌, ◌++◌, length, map, take, drop, Option, Some, None, slice_get, refl, sym, ap, ◌∙◌, subst, arith}
 use Rattle.std.proofs.lemmas.List.{drop-map, take-map}
 use Rattle.lp_form.specs.declared.part.Part.TheVariants as part
 use Rattle.lp_repr.specs.declared.lr1.Lr1State.{Lr1State}
@@ -113,10 +113,10 @@ abbrev text_by : Options → List ℕ → Forest → List ℕ
 text_by options prefix f = lines_bytes options.whitespace 0 (all_lines (printed options prefix f))
 
 pub built_is_one : BuiltIsOne
-built_is_one g states one other options a b =
+built_is_one g states comments one other options (a, a_so) (b, b_so) =
     let modules : a.modules ≡ b.modules = modules_one g states (length g.start_nonterminals.entries) a.modules b.modules a.each b.each in
     let items : program_items one ≡ program_items other =
     a.parts ∙ ap (λ (l : List Item). over part.Program [] ((((front_lines g ++ l) ++ token_lines g g.intern_token) ++ action_functions g) ++ triple_lines g)) modules ∙ sym b.parts in
-    let notes : program_notes one ≡ program_notes other = a.notes ∙ ap (notes_of_program g states) items ∙ sym b.notes in
+    let notes : program_notes one ≡ program_notes other = a.notes ∙ ap (λ (c : Bool). notes_of_program c g states (program_items one)) (a_so ∙ sym b_so) ∙ ap (notes_of_program b.comments g states) items ∙ sym b.notes in
     let trees = whole_one one.entries.items other.entries.items (entries_told one.entries.items other.entries.items items notes) in
     ap (λ (p : List ℕ). text_by options p (whole one.entries.items)) (a.prefix ∙ sym b.prefix) ∙ ap (text_by options other.prefix) trees

@@ -1,12 +1,10 @@
 -- From tokens to numbers of terminals and to symbols.
 use Rattle.std.proofs.Common.{ℕ, ◌+◌, List, [], ◌∷◌, map, Option, Some, None, refl}
-use Rattle.std.specs.BTreeMap.{get}
 use Rattle.lp_form.specs.Classes.{members_of}
 use Rattle.lp_form.specs.Templates.{steps_of, holes_of}
 use Rattle.lp_form.specs.declared.class.Class.TheVariants as class
 use Rattle.lp_form.specs.declared.part.Part.TheVariants as part
 use Rattle.lp_form.specs.declared.template.Step.TheVariants as step
-use Rattle.lp_repr.specs.NameOrder.{terminal_cmp}
 use Rattle.lp_repr.specs.Numbering.{terminals_of}
 use Rattle.lp_repr.specs.declared.repr.Grammar.{Grammar}
 use Rattle.lp_repr.specs.declared.repr.TerminalString.{TerminalString}
@@ -17,7 +15,7 @@ use Rattle.lp_parts.specs.Texts.{symbol_text}
 use Rattle.lp_table.specs.Headers.{clauses_of, generics_of}
 use Rattle.lp_table.specs.MachineLines.{phantom_parameter}
 use Rattle.lp_table.specs.Pieces.{variant_text}
-use Rattle.lp_table.specs.TokenLines.{Known, captured_value, group_arm, group_patterns, groups_of, in_group, integer_row, integer_rows, known_terminals, number_of, number_type, token_index, token_numbers, token_reference, token_symbols, token_value}
+use Rattle.lp_table.specs.TokenLines.{Known, captured_value, group_arm, group_patterns, groups_of, in_group, integer_row, integer_rows, known_terminals, number_of, number_type, own_pattern, token_index, token_numbers, token_reference, token_symbols, token_value}
 use Rattle.lp_table.specs.declared.tokens.Group.{Group}
 use Rattle.lp_emitted.proofs.Headers.{header_one}
 use Rattle.lp_emitted.proofs.Rows.{Told, Takes, beside, many_flat, many_more, many_none, many_one, one_leaf, over_one}
@@ -29,7 +27,7 @@ integer_many n (Some p) = many_one (one_leaf class.IntegerRow part.IntegerRow _ 
 
 integers_many : {T : Told} (g : Grammar) (n : ℕ) (ts : List TerminalString) → Takes T (step.Many class.IntegerRow ∷ []) (integer_rows g n ts)
 integers_many g n [] = many_none class.IntegerRow
-integers_many g n (t ∷ ts) = many_more (integer_many n (get terminal_cmp g.conversions t)) (integers_many g (n + 1) ts)
+integers_many g n (t ∷ ts) = many_more (integer_many n (own_pattern g t)) (integers_many g (n + 1) ts)
 
 pub token_numbers_one : {T : Told} (g : Grammar) → Takes T (step.One class.TokenToInteger ∷ []) (token_numbers g)
 unfolding steps_of holes_of members_of token_numbers

@@ -1,11 +1,11 @@
 -- What the laws say: what is built of what may be emitted is well formed where its texts fit, and so it reads back.
-use Rattle.std.specs.Prelude.{◌≡◌, true, List}
+use Rattle.std.specs.Prelude.{◌≡◌, Bool, true, List}
 use Rattle.lp_repr.specs.declared.lr1.StartStates.{StartStates}
 use Rattle.lp_repr.specs.declared.repr.Grammar.{Grammar}
 use Rattle.lp_tree.specs.declared.tree.Program.{Program}
 use Rattle.lp_program.specs.Reads.{ReadsAs, is_prefix}
 use Rattle.lp_write.specs.declared.rust.Options.{Options}
-use Rattle.lp_assembly.specs.Built.{AllFit, IsBuilt}
+use Rattle.lp_assembly.specs.Built.{AllFit, IsBuilt, IsBuiltWith}
 use Rattle.lp_fitting.specs.Fitting.{IsFitting}
 use Rattle.lp_laws.specs.AsRead.{IsRead}
 use Rattle.lp_laws.specs.Laws.{text_of}
@@ -18,9 +18,10 @@ use Rattle.lp_emitted.specs.TextsFit.{AreStepsFit}
 abbrev pub BuiltIsShaped : Type 0
 BuiltIsShaped = (g : Grammar) (states : List StartStates) (program : Program) → IsBuilt g states program → IsShaped program
 
--- of a grammar and its states one program is built, as far as texts tell: all that are have the same text, whatever the options
+-- of a grammar and its states one program with comments is built, and one without, as far as texts tell: all that are have the same text, whatever
+-- the options
 abbrev pub BuiltIsOne : Type 0
-BuiltIsOne = (g : Grammar) (states : List StartStates) (one other : Program) (options : Options) → IsBuilt g states one → IsBuilt g states other → text_of options one ≡ text_of options other
+BuiltIsOne = (g : Grammar) (states : List StartStates) (comments : Bool) (one other : Program) (options : Options) → IsBuiltWith comments g states one → IsBuiltWith comments g states other → text_of options one ≡ text_of options other
 
 -- a program of this shape is well formed where its texts fit
 abbrev pub ShapedIsWellFormed : Type 0

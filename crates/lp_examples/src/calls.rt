@@ -3,6 +3,7 @@
 //! - `tool WORDS`: the whole tool with these words, over a source of which `read=N` tells how many bytes a read
 //!   gives; `each read`, `each tool write`: `run` with each read, and each write, failing once; `each front`: `run`
 //!   on the file cut off at each byte; `too long`: `run` on one byte more than a file may have;
+//! - `message`: what a person is told of the file, as of one named `grammar.lp`;
 //! - `emit`: the emission of all parsers; `each write`: the same with each write failing once; `causes`: the texts
 //!   of its refusals;
 //! - `tables N`: the check of the states of the first list as those of start N; `sound`: the check of the texts of
@@ -29,6 +30,7 @@ pub fn answer_of(alloc: Global, case: &Case<'_>) -> Result<Answer, AllocError> {
         "each tool write" => tool::each_write(alloc, file),
         "each front" => tool::each_front(alloc, file),
         "too long" => tool::too_long(alloc),
+        "message" => tool::message_on(alloc, file),
         words => match words.split_once(' ').unwrap_or((words, "")) {
             ("tool", words) => tool::run_words(alloc, words, file),
             (call, words) => match example_of(alloc, case.file, case.changes)? {

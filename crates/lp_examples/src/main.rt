@@ -52,7 +52,7 @@ const EXAMPLES: [&str; 19] = [
 ];
 
 /// The files of calls, by name.
-const CALLS: [&str; 19] = [
+const CALLS: [&str; 20] = [
     "runs",
     "ascent",
     "budgets",
@@ -60,6 +60,7 @@ const CALLS: [&str; 19] = [
     "budgets_ascent",
     "recovery",
     "refused_files",
+    "messages",
     "texts",
     "generated",
     "changed",

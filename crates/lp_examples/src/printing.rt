@@ -41,7 +41,7 @@ fn print_call(
             if !all_fit(tables) {
                 return Ok(());
             }
-            let program = build_program(alloc, grammar, tables)?;
+            let program = build_program(alloc, grammar, tables, out.options().comments)?;
             print_program(alloc, &program, out)
         }
         "tokens" => match &grammar.intern_token {

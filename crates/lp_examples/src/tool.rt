@@ -3,6 +3,7 @@
 use crate::answers::told;
 use crate::cases::number;
 use crate::writers::{Answer, answer_by, sink_of, value, words_of};
+use lp_messages::{message, warnings};
 use lp_tool::{Report, Status, run_tool};
 use lp_write::{MemorySink, MemorySource};
 use std::alloc::{AllocError, Global};
@@ -110,4 +111,21 @@ pub fn too_long(alloc: Global) -> Result<Answer, AllocError> {
     let mut file = Vec::with_capacity(alloc, TOO_MANY)?;
     file.resize(TOO_MANY, b' ')?;
     run_words(alloc, "run", file.as_slice())
+}
+
+/// What a person is told of a file, under the name `grammar.lp`.
+pub fn message_on(alloc: Global, file: &[u8]) -> Result<Answer, AllocError> {
+    let (report, _) = called(alloc, "run", file, &WELL)?;
+    Ok(Answer {
+        end: String::from_str(alloc, "ok")?,
+        output: said_of(alloc, file, &report.status)?,
+    })
+}
+
+/// The message on a status, or the warnings where all is done.
+fn said_of(alloc: Global, file: &[u8], status: &Status) -> Result<String, AllocError> {
+    match status {
+        Status::Done => warnings(alloc, "grammar.lp", file),
+        _ => message(alloc, "grammar.lp", file, status),
+    }
 }

@@ -44,13 +44,13 @@ use Rattle.lp_goto_slice.proofs.GotoCode.{IsState, gotos_at}
 use Rattle.lp_goto_slice.proofs.GotoRun.{number, at, goto_called}
 use Rattle.lp_goto_slice.proofs.StateTypes.{numbers_of}
 
-same_goto : (ss : List Lr1State) (n i : ℕ) → parts.goto_at ss n i ≡ goto_at ss i n
+pub same_goto : (ss : List Lr1State) (n i : ℕ) → parts.goto_at ss n i ≡ goto_at ss i n
 same_goto [] n i = refl
 same_goto (s ∷ ss) n zero = refl
 same_goto (s ∷ ss) n (suc i) = same_goto ss n i
 
 -- what the gotos answer is the tables' entry
-answers : (ss : List Lr1State) (n s t : ℕ) → goto_at ss s n ≡ Some t → answer (gotos_at ss n) s ≡ t
+pub answers : (ss : List Lr1State) (n s t : ℕ) → goto_at ss s n ≡ Some t → answer (gotos_at ss n) s ≡ t
 answers ss n s t e =
     subst (λ o. IfSome o (λ t. answer (gotos_at ss n) s ≡ t)) (same_goto ss n s ∙ e) (faithful n ss (gotos_at ss n) (are_gotos_of (arms_of (column_from n 0 ss))) s)
 
@@ -89,12 +89,12 @@ pub record Found (ss : List Lr1State) (s n t : ℕ) : Type 0 where
   pub entry : get nat_cmp state.gotos n ≡ Some t
   pub within : s < length ss
 
-found : (ss : List Lr1State) (s n t : ℕ) → goto_at ss s n ≡ Some t → Found ss s n t
+pub found : (ss : List Lr1State) (s n t : ℕ) → goto_at ss s n ≡ Some t → Found ss s n t
 found [] s n t e = absurd cc
 found (x ∷ ss) zero n t e = record { state = x; there = refl; entry = e; within = omega arith }
 found (x ∷ ss) (suc s) n t e = let f = found ss s n t e in record { state = f.state; there = f.there; entry = f.entry; within = omega (arith, f.within) }
 
-in_range : (g : Grammar) (start : ℕ) (states : List Lr1State) → IsValidTables g start states → (s n t : ℕ) → goto_at states s n ≡ Some t → (n < length (nonterminals_of g)) × (t < length states)
+pub in_range : (g : Grammar) (start : ℕ) (states : List Lr1State) → IsValidTables g start states → (s n t : ℕ) → goto_at states s n ≡ Some t → (n < length (nonterminals_of g)) × (t < length states)
 in_range g start states valid s n t e = let f = found states s n t e in (valid.each s f.state f.there).gotos_in_range n t f.entry
 
 -- the driver asks for the goto of a state on a nonterminal that the tables have: it is answered after two steps

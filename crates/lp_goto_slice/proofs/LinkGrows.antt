@@ -80,19 +80,34 @@ tabled_both m n o f g = record { tables = g.tables ∙ f.tables; action_table = 
 pub tabled_more : (m n : Making) → Extends m n → Tabled m n
 tabled_more m n e = record { tables = e.tables; action_table = e.action_table; eof_table = e.eof_table }
 
+-- texts keep their numbers, and variants theirs; the closure of the token source is the same
+pub record Grown (m n : Making) : Type 0 where
+  pub texts : (ts : List (List ℕ)) × (n.texts ≡ m.texts ++ ts)
+  pub variants : (q : List ℕ) (k : ℕ) → number_in q m.variants ≡ Some k → number_in q n.variants ≡ Some k
+  pub item_closure : n.item_closure ≡ m.item_closure
+
+pub grown_same : (m : Making) → Grown m m
+grown_same m = record { texts = ([], sym (append-nil m.texts)); variants = λ q k h. h; item_closure = refl }
+
+pub grown_both : (m n o : Making) → Grown m n → Grown n o → Grown m o
+grown_both m n o f g = record { texts = added m.texts n.texts o.texts f.texts g.texts; variants = λ q k h. g.variants q k (f.variants q k h); item_closure = g.item_closure ∙ f.item_closure }
+
+pub grown_more : (m n : Making) → Extends m n → Grown m n
+grown_more m n e = record { texts = e.texts; variants = e.variants; item_closure = e.item_closure }
+
 -- ---- tables and tokens
 
 integers_extend : (m : Making) (form : Form) → Extends m (with_integers form m)
 integers_extend m form =
     over_extends (λ r. r.made) integer_row (λ s f. either (λ (r : Reading). Extends s.made r.made) (is_a part.IntegerRow f) _ _ (one_text (hole_of 0 f) s.made) (same s.made)) (record { arms = no_arms; made = m }) (parts_of form)
 
-patterns_extend : (variant : Tag) (token : ℕ) (names : List (List ℕ)) (s : Reading) (patterns : List (List ℕ)) → Extends s.made (pattern_arms variant token names s patterns).made
+pub patterns_extend : (variant : Tag) (token : ℕ) (names : List (List ℕ)) (s : Reading) (patterns : List (List ℕ)) → Extends s.made (pattern_arms variant token names s patterns).made
 patterns_extend variant token names s [] = same s.made
 patterns_extend variant token names s (p ∷ ps) =
     let t = pattern_arm variant token names s p in
     both s.made t.made (pattern_arms variant token names t ps).made (one_text _ s.made) (patterns_extend variant token names t ps)
 
-symbol_extends : (m : Making) (names : Names) (row : Form) → Extends m (symbol_arm m names row).made
+pub symbol_extends : (m : Making) (names : Names) (row : Form) → Extends m (symbol_arm m names row).made
 symbol_extends m names row =
     either (λ (d : Done). Extends m d.made) (is_a part.SymbolArm row) _ _ (one_variant (hole_of 1 row) m)
     (both m (with_variant (hole_of 2 row) m) _ (one_variant (hole_of 2 row) m) (patterns_extend (variant_tag (hole_of 2 row) m) names.next (captures_of (hole_of 3 row)) (record { arms = no_arms; made = with_variant (hole_of 2 row) m }) (patterns (hole_of 1 row))))
@@ -103,16 +118,16 @@ symbols_extend m form =
 
 -- ---- reductions
 
-line_extends : (w : Work) (line : Form) → Extends w.made (reduce_line w line).made
+pub line_extends : (w : Work) (line : Form) → Extends w.made (reduce_line w line).made
 line_extends w line =
     either (λ (v : Work). Extends w.made v.made) (is_a part.SpanEmpty line) _ _ (both w.made (with_function _ w.made) (with_last_end w.made) (one_function _ w.made) (one_function _ (with_function _ w.made)))
     (either (λ (v : Work). Extends w.made v.made) (is_a part.OutcomePush line) _ _ (one_variant (hole_of 0 line) w.made) (same w.made))
 
-body_extends : (m : Making) (names : Names) (o : Option Form) → Extends m (found_body m names o).made
+pub body_extends : (m : Making) (names : Names) (o : Option Form) → Extends m (found_body m names o).made
 body_extends m names None = same m
 body_extends m names (Some form) = over_extends (λ w. w.made) reduce_line line_extends (record { lines = record { names = names; parts = [] }; made = m }) (parts_of form)
 
-arm_extends : (m : Making) (names : Names) (row : Form) → Extends m (reduce_arm m names row).made
+pub arm_extends : (m : Making) (names : Names) (row : Form) → Extends m (reduce_arm m names row).made
 arm_extends m names row = either (λ (d : Done). Extends m d.made) (is_a part.ReduceCallArm row) _ _ (same m) (body_extends m names (slice_get (parts_of row) 0))
 
 reduce_extends : (m : Making) (form : Form) → Extends m (with_reduce form m)

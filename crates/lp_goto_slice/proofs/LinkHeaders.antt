@@ -13,16 +13,16 @@ use Rattle.lp_build.specs.declared.functions.FunctionName.{FunctionName}
 use Rattle.lp_build.specs.Built as built
 use Rattle.lp_build.specs.Built.{row, text_rows}
 use Rattle.lp_build.specs.Functions.{name_part, name_holes, result_line, clause_lines}
-use Rattle.lp_tree.specs.ProgramTree.{Item, leaf}
+use Rattle.lp_tree.specs.ProgramTree.{leaf}
 use Rattle.lp_table.specs.Headers.{header_lines}
-use Rattle.lp_view.specs.PartLists.{Form, parts_of, over}
+use Rattle.lp_view.specs.PartLists.{Form, hole_of, is_a, parts_of, over}
 use Rattle.lp_maker.specs.Slots.{Names, no_names, bound}
 use Rattle.lp_maker.specs.Texts.{Nothing, Triple, Named, cut_at, begins, bare, marked, with_mark, plain, is_idle, name_before, row_binding, bound_of}
 use Rattle.lp_maker.specs.Making.{bind, bind_row, parameters}
 use Rattle.lp_maker.proofs.Cuts.{has_front}
 use Rattle.lp_goto_slice.proofs.Digits.{Lacks}
 use Rattle.lp_goto_slice.proofs.Cuts.{cut_joined}
-use Rattle.lp_goto_slice.proofs.Whole.{AreWhole, flat, parts_over, flat-append, whole-append}
+use Rattle.lp_goto_slice.proofs.Whole.{IsWhole, AreWhole, flat, parts_over, flat-append, whole-append}
 use Rattle.lp_goto_slice.proofs.GotoCode.{over-append, lacks-append}
 
 -- a name of two bytes or more, none of them `&`, `(` or `:`
@@ -32,7 +32,7 @@ pub record IsName (s : List ℕ) : Type 0 where
   pub no_colon : Lacks 58 s
   pub long : 1 < length s
 
-unequal : (x y : List ℕ) → (x ≡ y → ⊥) → bytes_eq x y ≡ false
+pub unequal : (x y : List ℕ) → (x ≡ y → ⊥) → bytes_eq x y ≡ false
 unequal x y h = false_from_ne_true _ (λ e. h ((bytes_eq-Decides x y).0 e))
 
 -- `name: type` binds the name
@@ -65,41 +65,74 @@ abbrev pub bind_all : List ℕ → Names → List (List ℕ) → Names
 bind_all prefix names [] = names
 bind_all prefix names (text ∷ texts) = bind_all prefix (bind prefix (bound_of text) names) texts
 
-abbrev type_forms : List (List ℕ) → List Form
+abbrev pub type_forms : List (List ℕ) → List Form
 type_forms texts = map (λ t. row part.TypeRow (t ∷ []) ∷ []) texts
 
-abbrev parameter_forms : List (List ℕ) → List Form
+abbrev pub parameter_forms : List (List ℕ) → List Form
 parameter_forms texts = map (λ t. row part.ParameterRow (t ∷ []) ∷ []) texts
 
-types_flat : (texts : List (List ℕ)) → (flat (type_forms texts) ≡ text_rows part.TypeRow texts) × AreWhole (type_forms texts)
+abbrev clause_forms : List (List ℕ) → List Form
+clause_forms [] = []
+clause_forms (c ∷ cs) = clause_lines (c ∷ cs) ∷ []
+
+pub types_flat : (texts : List (List ℕ)) → (flat (type_forms texts) ≡ text_rows part.TypeRow texts) × AreWhole (type_forms texts)
 types_flat [] = (refl, tt)
 types_flat (t ∷ texts) = let r = types_flat texts in (ap (λ x. row part.TypeRow (t ∷ []) ∷ x) r.0, (refl, r.1))
 
-parameters_flat : (texts : List (List ℕ)) → (flat (parameter_forms texts) ≡ text_rows part.ParameterRow texts) × AreWhole (parameter_forms texts)
+pub parameters_flat : (texts : List (List ℕ)) → (flat (parameter_forms texts) ≡ text_rows part.ParameterRow texts) × AreWhole (parameter_forms texts)
 parameters_flat [] = (refl, tt)
 parameters_flat (t ∷ texts) = let r = parameters_flat texts in (ap (λ x. row part.ParameterRow (t ∷ []) ∷ x) r.0, (refl, r.1))
 
--- what binds nothing
-record Idle (items : List Item) : Type 0 where
-  forms : List Form
-  are : items ≡ flat forms
-  whole : AreWhole forms
-  binds : (prefix : List ℕ) (names : Names) → over (bind_row prefix) names forms ≡ names
+clauses_flat : (clauses : List (List ℕ)) → (flat (clause_forms clauses) ≡ clause_lines clauses) × AreWhole (clause_forms clauses)
+clauses_flat [] = (refl, tt)
+clauses_flat (c ∷ cs) = (append-nil (clause_lines (c ∷ cs)), (refl, tt))
 
-result_idle : (answer : List ℕ) → Idle (result_line answer)
-result_idle answer = by (pointwise nat_eq answer (codes "()"))
+-- a result line is one part, and no parameter
+result_whole : (answer : List ℕ) → IsWhole (result_line answer) × (is_a part.ParameterRow (result_line answer) ≡ false)
+result_whole answer = by (pointwise nat_eq answer (codes "()"))
   where
-    by : (b : Bool) → Idle (if b then leaf part.ResultUnit [] else leaf part.ResultType (answer ∷ []))
-    by true = record { forms = leaf part.ResultUnit [] ∷ []; are = refl; whole = (refl, tt); binds = λ p n. refl }
-    by false = record { forms = leaf part.ResultType (answer ∷ []) ∷ []; are = refl; whole = (refl, tt); binds = λ p n. refl }
+    by : (b : Bool) → IsWhole (if b then leaf part.ResultUnit [] else leaf part.ResultType (answer ∷ [])) × (is_a part.ParameterRow (if b then leaf part.ResultUnit [] else leaf part.ResultType (answer ∷ [])) ≡ false)
+    by true = (refl, refl)
+    by false = (refl, refl)
 
-clauses_idle : (clauses : List (List ℕ)) → Idle (clause_lines clauses)
-clauses_idle [] = record { forms = []; are = refl; whole = tt; binds = λ p n. refl }
-clauses_idle (c ∷ cs) = record { forms = built.over part.Clauses [] (text_rows part.ClauseRow (c ∷ cs)) ∷ []; are = sym (append-nil (built.over part.Clauses [] (text_rows part.ClauseRow (c ∷ cs)))); whole = (refl, tt); binds = λ p n. refl }
+header_parts : (name : FunctionName) (generics params : List (List ℕ)) (answer : List ℕ) (clauses : List (List ℕ)) →
+    parts_of (header_lines name generics params answer clauses) ≡ ((type_forms generics ++ parameter_forms params) ++ result_line answer ∷ []) ++ clause_forms clauses
+unfolding header_lines
+header_parts name generics params answer clauses =
+    let t = type_forms generics in
+    let p = parameter_forms params in
+    let r = result_line answer ∷ [] in
+    let c = clause_forms clauses in
+    let lines = text_rows part.TypeRow generics ++ text_rows part.ParameterRow params in
+    let flattened : (lines ++ result_line answer) ++ clause_lines clauses ≡ flat (((t ++ p) ++ r) ++ c) =
+    sym (flat-append ((t ++ p) ++ r) c ∙ ap (λ x. x ++ flat c) (flat-append (t ++ p) r ∙ ap (λ x. x ++ flat r) (flat-append t p ∙ ap (λ x. x ++ flat p) (types_flat generics).0 ∙ ap (λ x. text_rows part.TypeRow generics ++ x) (parameters_flat params).0) ∙ ap (λ x. lines ++ x) (append-nil (result_line answer))) ∙ ap (λ x. (lines ++ result_line answer) ++ x) (clauses_flat clauses).0) in
+    let whole : AreWhole (((t ++ p) ++ r) ++ c) = whole-append ((t ++ p) ++ r) c (whole-append (t ++ p) r (whole-append t p (types_flat generics).1 (parameters_flat params).1) ((result_whole answer).0, tt)) (clauses_flat clauses).1 in
+    ap (λ below. parts_of (built.over (name_part name) (name_holes name) below)) flattened ∙ parts_over (name_part name) (name_holes name) (((t ++ p) ++ r) ++ c) whole
 
-types_idle : (prefix : List ℕ) (names : Names) (texts : List (List ℕ)) → over (bind_row prefix) names (type_forms texts) ≡ names
-types_idle prefix names [] = refl
-types_idle prefix names (t ∷ texts) = types_idle prefix names texts
+-- a pass that leaves all rows but parameters is one over the parameters
+module _ {S : Type 0} (step : S → Form → S) (passes : (s : S) (f : Form) → is_a part.ParameterRow f ≡ false → step s f ≡ s) where
+  types_passed : (s : S) (texts : List (List ℕ)) → over step s (type_forms texts) ≡ s
+  types_passed s [] = refl
+  types_passed s (t ∷ texts) = types_passed (step s (row part.TypeRow (t ∷ []) ∷ [])) texts ∙ passes s (row part.TypeRow (t ∷ []) ∷ []) refl
+
+  clauses_passed : (s : S) (clauses : List (List ℕ)) → over step s (clause_forms clauses) ≡ s
+  clauses_passed s [] = refl
+  clauses_passed s (c ∷ cs) = passes s (clause_lines (c ∷ cs)) refl
+
+  pub header_over : (s : S) (name : FunctionName) (generics params : List (List ℕ)) (answer : List ℕ) (clauses : List (List ℕ)) →
+      over step s (parts_of (header_lines name generics params answer clauses)) ≡ over step s (parameter_forms params)
+  header_over s name generics params answer clauses =
+      let t = type_forms generics in
+      let p = parameter_forms params in
+      let r = result_line answer ∷ [] in
+      let c = clause_forms clauses in
+      ap (over step s) (header_parts name generics params answer clauses)
+      ∙ over-append step s ((t ++ p) ++ r) c
+      ∙ clauses_passed (over step s ((t ++ p) ++ r)) clauses
+      ∙ over-append step s (t ++ p) r
+      ∙ passes (over step s (t ++ p)) (result_line answer) (result_whole answer).1
+      ∙ over-append step s t p
+      ∙ ap (λ n. over step n p) (types_passed s generics)
 
 parameters_bound : (prefix : List ℕ) (names : Names) (texts : List (List ℕ)) → over (bind_row prefix) names (parameter_forms texts) ≡ bind_all prefix names texts
 parameters_bound prefix names [] = refl
@@ -108,26 +141,8 @@ parameters_bound prefix names (t ∷ texts) = parameters_bound prefix (bind pref
 -- the parameters of a header are those of its texts
 pub header_names : (prefix : List ℕ) (name : FunctionName) (generics params : List (List ℕ)) (answer : List ℕ) (clauses : List (List ℕ)) →
     parameters prefix (header_lines name generics params answer clauses) ≡ bind_all prefix no_names params
-unfolding header_lines
 header_names prefix name generics params answer clauses =
-    let t = type_forms generics in
-    let p = parameter_forms params in
-    let r = result_idle answer in
-    let c = clauses_idle clauses in
-    let all = ((t ++ p) ++ r.forms) ++ c.forms in
-    let flattened : ((text_rows part.TypeRow generics ++ text_rows part.ParameterRow params) ++ result_line answer) ++ clause_lines clauses ≡ flat all =
-    sym (flat-append ((t ++ p) ++ r.forms) c.forms ∙ ap (λ x. x ++ flat c.forms) (flat-append (t ++ p) r.forms ∙ ap (λ x. x ++ flat r.forms) (flat-append t p ∙ ap (λ x. x ++ flat p) (types_flat generics).0 ∙ ap (λ x. text_rows part.TypeRow generics ++ x) (parameters_flat params).0) ∙ ap (λ x. (text_rows part.TypeRow generics ++ text_rows part.ParameterRow params) ++ x) (sym r.are))
-    ∙ ap (λ x. ((text_rows part.TypeRow generics ++ text_rows part.ParameterRow params) ++ result_line answer) ++ x) (sym c.are)) in
-    let whole : AreWhole all = whole-append ((t ++ p) ++ r.forms) c.forms (whole-append (t ++ p) r.forms (whole-append t p (types_flat generics).1 (parameters_flat params).1) r.whole) c.whole in
-    let step = bind_row prefix in
-    ap (λ below. over step no_names (parts_of (built.over (name_part name) (name_holes name) below))) flattened
-    ∙ ap (over step no_names) (parts_over (name_part name) (name_holes name) all whole)
-    ∙ over-append step no_names ((t ++ p) ++ r.forms) c.forms
-    ∙ c.binds prefix (over step no_names ((t ++ p) ++ r.forms))
-    ∙ over-append step no_names (t ++ p) r.forms
-    ∙ r.binds prefix (over step no_names (t ++ p))
-    ∙ over-append step no_names t p
-    ∙ ap (λ n. over step n p) (types_idle prefix no_names generics)
+    header_over (bind_row prefix) (λ names row e. ap (λ (b : Bool). if b then bind prefix (bound_of (hole_of 0 row)) names else names) e) no_names name generics params answer clauses
     ∙ parameters_bound prefix no_names params
 
 -- ---- names with the prefix

@@ -19,8 +19,8 @@ use Rattle.lp_run.specs.Named.{parser_of, is_interned}
 use Rattle.lp_run.specs.Entered.{with_closure, sourced, with_source, made_after, module_made}
 use Rattle.lp_run.specs.Module.{Module}
 use Rattle.lp_goto_slice.proofs.LinkMaps.{numbered_other, get_more, get_end, get_set_other}
-use Rattle.lp_goto_slice.proofs.LinkGrows.{Tabled, tabled_same, tabled_both, Extends, same, both, one_function, one_text, one_variant, either, over_extends, is_of_tables}
-use Rattle.lp_goto_slice.proofs.LinkPromises.{AreNoAscent, Linked, row_linked, tables_stay}
+use Rattle.lp_goto_slice.proofs.LinkGrows.{Tabled, tabled_same, tabled_both, Grown, grown_same, grown_both, Extends, same, both, one_function, one_text, one_variant, either, over_extends, is_of_tables}
+use Rattle.lp_goto_slice.proofs.LinkPromises.{AreNoAscent, Beside, Linked, row_linked, tables_stay, terminals_stay}
 
 -- ---- actions
 
@@ -32,7 +32,7 @@ below_more : (n k : ℕ) (form : Form) (rs : List (ℕ × Form)) → Below n rs 
 below_more n k form [] b le = (omega arith, tt)
 below_more n k form (r ∷ rs) b le = (let a = b.0 in omega arith, below_more n k form rs b.1 le)
 
-code_extends : (o body : Option Form) (m : Making) → Extends m (with_code_under o body m)
+pub code_extends : (o body : Option Form) (m : Making) → Extends m (with_code_under o body m)
 code_extends None body m = same m
 code_extends (Some header) None m = same m
 code_extends (Some header) (Some body) m = either (Extends m) (is_a part.UserBody body) _ _ (one_text (code_of body) m) (same m)
@@ -44,7 +44,7 @@ action_kept m r j x ne h =
     let here : slice_get n.functions j ≡ Some x = subst (λ fs. slice_get fs j ≡ Some x) (sym e.1) (get_more m.functions e.0 j x h) in
     either (λ fs. slice_get fs j ≡ Some x) (nat_lt r.0 (length n.functions)) _ _ (get_set_other n.functions j r.0 (Some (action_function m r.1)) ne ∙ here) here
 
-actions_kept : (m : Making) (rs : List (ℕ × Form)) (j n : ℕ) (x : Option Function) → Below n rs → n ≤ j → slice_get m.functions j ≡ Some x → slice_get (actions_made m rs).functions j ≡ Some x
+pub actions_kept : (m : Making) (rs : List (ℕ × Form)) (j n : ℕ) (x : Option Function) → Below n rs → n ≤ j → slice_get m.functions j ≡ Some x → slice_get (actions_made m rs).functions j ≡ Some x
 actions_kept m [] j n x b le h = h
 actions_kept m (r ∷ rs) j n x b le h = actions_kept (action_made m r) rs j n x b.1 le (action_kept m r j x (λ e. (let a = b.0 in omega arith)) h)
 
@@ -54,7 +54,17 @@ actions_tabled m (r ∷ rs) =
     let e = code_extends (slice_get (parts_of r.1) 0) (slice_get (parts_of r.1) 1) m in
     tabled_both m (action_made m r) (actions_made (action_made m r) rs) (record { tables = e.tables; action_table = e.action_table; eof_table = e.eof_table }) (actions_tabled (action_made m r) rs)
 
-actions_know : (m : Making) (rs : List (ℕ × Form)) → (actions_made m rs).names ≡ m.names
+pub actions_grown : (m : Making) (rs : List (ℕ × Form)) → Grown m (actions_made m rs)
+actions_grown m [] = grown_same m
+actions_grown m (r ∷ rs) =
+    let e = code_extends (slice_get (parts_of r.1) 0) (slice_get (parts_of r.1) 1) m in
+    grown_both m (action_made m r) (actions_made (action_made m r) rs) (record { texts = e.texts; variants = e.variants; item_closure = e.item_closure }) (actions_grown (action_made m r) rs)
+
+pub actions_list : (m : Making) (rs : List (ℕ × Form)) → (actions_made m rs).terminals ≡ m.terminals
+actions_list m [] = refl
+actions_list m (r ∷ rs) = actions_list (action_made m r) rs ∙ (code_extends (slice_get (parts_of r.1) 0) (slice_get (parts_of r.1) 1) m).terminals
+
+pub actions_know : (m : Making) (rs : List (ℕ × Form)) → (actions_made m rs).names ≡ m.names
 actions_know m [] = refl
 actions_know m (r ∷ rs) = actions_know (action_made m r) rs ∙ (code_extends (slice_get (parts_of r.1) 0) (slice_get (parts_of r.1) 1) m).names
 
@@ -89,14 +99,14 @@ pub begun : (q prefix : List ℕ) (program : Form) → IsNoAction q → Begun q 
 begun q prefix program h = all_begun q prefix h (beginning_of false [] (unmade prefix)) (parts_of program) (record { new = refl; below = tt; same = refl })
 
 -- the closure of the token source adds functions alone
-abbrev Sourced : Making → Making → Type 0
+abbrev pub Sourced : Making → Making → Type 0
 Sourced m n = (n.names ≡ m.names) × (length m.functions ≤ length n.functions) × (n.prefix ≡ m.prefix)
 
 closure_sourced : (located : Bool) (m : Making) → Sourced m (with_closure located m)
 closure_sourced true m = (refl, simp length-append (omega arith), refl)
 closure_sourced false m = (refl, simp length-append (omega arith), refl)
 
-source_sourced : (located : Bool) (m : Making) (o : Option Form) → Sourced m (sourced located m o)
+pub source_sourced : (located : Bool) (m : Making) (o : Option Form) → Sourced m (sourced located m o)
 source_sourced located m None = closure_sourced located m
 source_sourced located m (Some parser) = either (Sourced m) (is_interned parser) _ _ (refl, omega arith, refl) (closure_sourced located m)
 
@@ -200,7 +210,7 @@ complete prefix program items =
     let s = module_rows (with_source items b.located b.actions.made) items in
     actions_made (all_made s.made s.promises) b.actions.promises
 
--- what a row declares has a number there, under which its function stands
+-- what a row declares has a number there, under which its function stands, and what was made with this
 pub record RowMade (prefix : List ℕ) (last : Making) (name : List ℕ) (form : Form) : Type 0 where
   pub number : ℕ
   pub named : number_in name last.names ≡ Some number
@@ -209,6 +219,9 @@ pub record RowMade (prefix : List ℕ) (last : Making) (name : List ℕ) (form :
   pub same : maker.prefix ≡ prefix
   pub action_table : maker.action_table ≡ last.action_table
   pub function : slice_get last.functions number ≡ Some (Some (function_made maker form).function)
+  pub grown : Grown (function_made maker form).making last
+  pub terminals : maker.terminals ≡ last.terminals
+  pub beside : Beside maker form last
 
 pub row_made : (prefix : List ℕ) (program items form : Form) (name rest : List ℕ) → Declares items name rest form → RowMade prefix (complete prefix program items) (name ++ rest) form
 unfolding complete
@@ -233,6 +246,9 @@ row_made prefix program items form name rest r =
       same = l.prefix ∙ from.2 ∙ begins.same;
       action_table = l.tabled.action_table ∙ sym (tabled_both s.made all (actions_made all b.actions.promises) (tables_stay s.made s.promises l.of_tables) (actions_tabled all b.actions.promises)).action_table;
       function = actions_kept all b.actions.promises k (length b.actions.made.functions) (Some (function_made l.maker form).function) begins.below (omega (arith, from.1, l.late)) l.function;
+      grown = grown_both (function_made l.maker form).making all (actions_made all b.actions.promises) l.grown (actions_grown all b.actions.promises);
+      terminals = l.terminals ∙ sym (actions_list all b.actions.promises ∙ terminals_stay s.made s.promises l.of_tables);
+      beside = λ j x behind made. actions_kept all b.actions.promises j (length b.actions.made.functions) x begins.below (omega (arith, from.1, l.late, l.behind, behind)) (l.beside j x behind made);
     }
 
 pub all_extends : (form : Form) (fields : Names) (count : ℕ) (m : Making) → Extends m (with_methods form fields count m)
@@ -246,6 +262,8 @@ pub record ModuleMade (made : Module) (last : Making) (machine : Form) : Type 0 
   pub parses : made.parse ≡ By_driver (methods_of machine names (length fields) last) fields
   pub functions : made.functions ≡ map finished (with_methods machine names (length fields) last).functions
   pub tables : made.tables ≡ last.tables
+  pub texts : (ts : List (List ℕ)) × (made.texts ≡ last.texts ++ ts)
+  pub closure : made.closure ≡ last.item_closure
 
 pub module_is_made : (prefix : List ℕ) (program items : Form) (d : IsDriven items) → ModuleMade (module_made prefix program items) (complete prefix program items) d.machine
 unfolding complete module_made made_after
@@ -253,7 +271,22 @@ module_is_made prefix program items d =
     let last = complete prefix program items in
     let own = fields (parameters_of prefix items) d.drive in
     let whole : parse_made last items (parameters_of prefix items) ≡ driving last own (Some d.machine) = parse_is items d last (parameters_of prefix items) in
-    record { names = own.names; fields = own.numbers; parses = ap (λ (p : Parsing). p.parse) whole; functions = ap (λ (p : Parsing). map finished p.made.functions) whole; tables = ap (λ (p : Parsing). p.made.tables) whole ∙ (all_extends d.machine own.names (length own.numbers) last).tables }
+    let all = all_extends d.machine own.names (length own.numbers) last in
+    record {
+      names = own.names;
+      fields = own.numbers;
+      parses = ap (λ (p : Parsing). p.parse) whole;
+      functions = ap (λ (p : Parsing). map finished p.made.functions) whole;
+      tables = ap (λ (p : Parsing). p.made.tables) whole ∙ all.tables;
+      texts = (all.texts.0, ap (λ (p : Parsing). p.made.texts) whole ∙ all.texts.1);
+      closure = refl;
+    }
+
+-- its fields are those of the call of the driver
+pub module_fields : (prefix : List ℕ) (program items : Form) (d : IsDriven items)
+    → ((module_is_made prefix program items d).names ≡ (fields (parameters_of prefix items) d.drive).names) × ((module_is_made prefix program items d).fields ≡ (fields (parameters_of prefix items) d.drive).numbers)
+unfolding module_is_made
+module_fields prefix program items d = (refl, refl)
 
 -- a function of a module that stands among those that were made
 pub finished_there : (fs : List (Option Function)) (j : ℕ) (f : Function) → slice_get fs j ≡ Some (Some f) → slice_get (map finished fs) j ≡ Some f

@@ -2,6 +2,7 @@
 use Rattle.std.proofs.Common.{◌≡◌, ℕ, zero, suc, ◌+◌, ◌<◌, ◌≤◌, Bool, true, false, List, [], ◌∷◌, ◌++◌, length, set, Option, Some, None, refl, ap, sym, subst, ◌∙◌, ◌||◌, arith, append_assoc, append-nil, length-append, if◌then◌else◌}
 use Rattle.std.specs.Prelude.{slice_get, codes, nat_lt}
 use Rattle.std.proofs.lemmas.Bool.{lt-ltb}
+use Rattle.std.proofs.lemmas.List.{length-set}
 use Rattle.lp_core.specs.declared.expr.Function.{Function}
 use Rattle.lp_form.specs.declared.part.Part.TheVariants as part
 use Rattle.lp_view.specs.PartLists.{Form, is_a, hole_of, parts_of, over}
@@ -11,7 +12,7 @@ use Rattle.lp_run.specs.Promised.{Promising, promising_of, promised, lookup_name
 use Rattle.lp_run.specs.Functions.{function_made, one_made, all_made}
 use Rattle.lp_goto_slice.proofs.GotoCode.{over-append}
 use Rattle.lp_goto_slice.proofs.LinkMaps.{numbered_here, numbered_kept, get_more, get_end, get_set, get_set_other}
-use Rattle.lp_goto_slice.proofs.LinkGrows.{either, is_of_tables, made_extends, Tabled, tabled_same, tabled_both}
+use Rattle.lp_goto_slice.proofs.LinkGrows.{either, is_of_tables, made_extends, Tabled, tabled_same, tabled_both, Grown, grown_same, grown_both}
 
 -- ---- declaring
 
@@ -164,7 +165,7 @@ others_are : (j : ℕ) (rs : List (ℕ × Form)) → Others j rs → AreOfTables
 others_are j [] o = tt
 others_are j (r ∷ rs) o = (o.1, others_are j rs o.2)
 
-between_are : (low high : ℕ) (rs : List (ℕ × Form)) → Between low high rs → AreOfTables rs
+pub between_are : (low high : ℕ) (rs : List (ℕ × Form)) → Between low high rs → AreOfTables rs
 between_are low high [] b = tt
 between_are low high (r ∷ rs) b = (b.2, between_are low high rs b.3)
 
@@ -192,27 +193,69 @@ tables_stay m (r ∷ rs) o =
     let e = made_extends m r.1 o.0 in
     tabled_both m (one_made m r) (all_made (one_made m r) rs) (record { tables = e.tables; action_table = e.action_table; eof_table = e.eof_table }) (tables_stay (one_made m r) rs o.1)
 
+pub all_grown : (m : Making) (rs : List (ℕ × Form)) → AreOfTables rs → Grown m (all_made m rs)
+all_grown m [] o = grown_same m
+all_grown m (r ∷ rs) o =
+    let e = made_extends m r.1 o.0 in
+    grown_both m (one_made m r) (all_made (one_made m r) rs) (record { texts = e.texts; variants = e.variants; item_closure = e.item_closure }) (all_grown (one_made m r) rs o.1)
+
+pub terminals_stay : (m : Making) (rs : List (ℕ × Form)) → AreOfTables rs → (all_made m rs).terminals ≡ m.terminals
+terminals_stay m [] o = refl
+terminals_stay m (r ∷ rs) o = terminals_stay (one_made m r) rs o.1 ∙ (made_extends m r.1 o.0).terminals
+
+-- no function goes
+one_longer : (m : Making) (r : ℕ × Form) → is_of_tables r.1 ≡ true → length m.functions ≤ length (one_made m r).functions
+one_longer m r is =
+    let made = function_made m r.1 in
+    let e = (made_extends m r.1 is).functions in
+    let more : length made.making.functions ≡ length m.functions + length e.0 = ap length e.1 ∙ length-append m.functions e.0 in
+    let set_more : length (set made.making.functions r.0 (Some made.function)) ≡ length made.making.functions = length-set made.making.functions r.0 (Some made.function) in
+    set_or_not (λ (fs : List (Option Function)). length m.functions ≤ length fs) r.0 made.function made.making.functions (omega arith) (omega arith)
+
+all_longer : (m : Making) (rs : List (ℕ × Form)) → AreOfTables rs → length m.functions ≤ length (all_made m rs).functions
+all_longer m [] o = omega arith
+all_longer m (r ∷ rs) o = (let one = one_longer m r o.0 in let others = all_longer (one_made m r) rs o.1 in omega arith)
+
+-- what is made beside a function stays behind it
+beside_one : (n : Making) (k : ℕ) (form : Form) (j : ℕ) (x : Option Function) → (j ≡ k → ⊥) → slice_get (function_made n form).making.functions j ≡ Some x → slice_get (one_made n (k, form)).functions j ≡ Some x
+beside_one n k form j x ne here =
+    let made = function_made n form in
+    set_or_not (λ (fs : List (Option Function)). slice_get fs j ≡ Some x) k made.function made.making.functions (get_set_other made.making.functions j k (Some made.function) ne ∙ here) here
+
 within : (fs : List (Option Function)) (k : ℕ) (x : Option Function) → slice_get fs k ≡ Some x → k < length fs
 within [] k x h = absurd cc
 within (f ∷ fs) zero x h = omega arith
 within (f ∷ fs) (suc k) x h = let lt : k < length fs = within fs k x h in omega arith
 
-all-append : (m : Making) (rs ts : List (ℕ × Form)) → all_made m (rs ++ ts) ≡ all_made (all_made m rs) ts
+pub all-append : (m : Making) (rs ts : List (ℕ × Form)) → all_made m (rs ++ ts) ≡ all_made (all_made m rs) ts
 all-append m [] ts = refl
 all-append m (r ∷ rs) ts = all-append (one_made m r) rs ts
 
+-- the functions that are made with that of a form, behind those before it
+abbrev pub Beside : Making → Form → Making → Type 0
+Beside n form after = (j : ℕ) (x : Option Function) → length n.functions ≤ j → slice_get (function_made n form).making.functions j ≡ Some x → slice_get after.functions j ≡ Some x
+
 -- the function of a promise, where all others have other numbers
-pub made_there : (m : Making) (rs ts : List (ℕ × Form)) (k : ℕ) (form : Form) (x : Option Function) → Others k rs → is_of_tables form ≡ true → Others k ts → slice_get m.functions k ≡ Some x →
-    (n : Making) × (n.names ≡ m.names) × (n.prefix ≡ m.prefix) × Tabled m n × (slice_get (all_made m (rs ++ (k, form) ∷ ts)).functions k ≡ Some (Some (function_made n form).function))
-made_there m rs ts k form x o is o' h =
+pub made_there : (m : Making) (rs ts : List (ℕ × Form)) (k : ℕ) (form : Form) (x : Option Function) → Others k rs → is_of_tables form ≡ true → Others k ts → ((j : ℕ) → length m.functions ≤ j → Others j ts) → slice_get m.functions k ≡ Some x →
+    (n : Making) × (n.names ≡ m.names) × (n.prefix ≡ m.prefix) × Tabled m n × Grown (function_made n form).making (all_made m (rs ++ (k, form) ∷ ts)) × (slice_get (all_made m (rs ++ (k, form) ∷ ts)).functions k ≡ Some (Some (function_made n form).function))
+    × (n.terminals ≡ m.terminals) × (k < length n.functions) × Beside n form (all_made m (rs ++ (k, form) ∷ ts))
+made_there m rs ts k form x o is o' later h =
     let n = all_made m rs in
     let here = all_kept m rs k x o h in (
       n,
       names_stay m rs (others_are k rs o),
       prefix_stays m rs (others_are k rs o),
       tables_stay m rs (others_are k rs o),
+      (let later = all_grown (one_made n (k, form)) ts (others_are k ts o') in subst (Grown (function_made n form).making) (sym (all-append m rs ((k, form) ∷ ts))) (record { texts = later.texts; variants = later.variants; item_closure = later.item_closure })),
       ap (λ t. slice_get t.functions k) (all-append m rs ((k, form) ∷ ts))
           ∙ all_kept (one_made n (k, form)) ts k (Some (function_made n form).function) o' (one_there n (k, form) is (within n.functions k x here)),
+      terminals_stay m rs (others_are k rs o),
+      within n.functions k x here,
+      λ j y behind made.
+          let longer = all_longer m rs (others_are k rs o) in
+          let first : k < length m.functions = within m.functions k x h in
+          ap (λ t. slice_get t.functions j) (all-append m rs ((k, form) ∷ ts))
+          ∙ all_kept (one_made n (k, form)) ts j y (later j (omega arith)) (beside_one n k form j y (λ same. omega arith) made),
     )
 
 -- ---- a form among the rows of a module
@@ -225,8 +268,12 @@ pub record Linked (m : Making) (s : Promising) (name : List ℕ) (form : Form) (
   pub knows : maker.names ≡ s.made.names
   pub prefix : maker.prefix ≡ m.prefix
   pub tabled : Tabled s.made maker
+  pub grown : Grown (function_made maker form).making (all_made s.made s.promises)
   pub of_tables : AreOfTables s.promises
   pub function : slice_get (all_made s.made s.promises).functions k ≡ Some (Some (function_made maker form).function)
+  pub terminals : maker.terminals ≡ s.made.terminals
+  pub behind : k < length maker.functions
+  pub beside : Beside maker form (all_made s.made s.promises)
 
 -- a row that declares a name that no row before it declares has its function under that name's number
 pub row_linked : (m : Making) (before : List Form) (form : Form) (after : List Form) (name rest : List ℕ) → AreNoAscent before → AreNoAscent after → is_of_tables form ≡ true →
@@ -246,7 +293,8 @@ row_linked m before form after name rest a b is row new =
     let there : slice_get s.made.functions k ≡ Some None = subst (λ fs. slice_get fs k ≡ Some None) (sym g2.functions.1) (get_more (sb.made.functions ++ None ∷ []) g2.functions.0 k None (get_end sb.made.functions [] None)) in
     let all : s.promises ≡ rs ++ (k, form) ∷ ts = g2.promises.1 ∙ ap (λ x. (x ++ (k, form) ∷ []) ++ ts) g1.promises.1 ∙ append_assoc rs ((k, form) ∷ []) ts in
     let f = made_there s.made rs ts k form None (others_below k (length m.functions) k rs (omega arith) g1.promises.2) is
-    (others_above k (length (sb.made.functions ++ None ∷ [])) (length s.made.functions) ts (omega arith) g2.promises.2) there in
+    (others_above k (length (sb.made.functions ++ None ∷ [])) (length s.made.functions) ts (omega arith) g2.promises.2)
+    (λ j behind. others_below j (length (sb.made.functions ++ None ∷ [])) (length s.made.functions) ts behind g2.promises.2) there in
     let linked : Linked m s (name ++ rest) form k = record {
       number = g2.names (name ++ rest) k (numbered_here (name ++ rest) k sb.made.names new);
       late = longer s0 sb g1;
@@ -255,7 +303,11 @@ row_linked m before form after name rest a b is row new =
       knows = f.1;
       prefix = f.2 ∙ g2.prefix ∙ g1.prefix;
       tabled = f.3;
+      grown = subst (λ ps. Grown (function_made f.0 form).making (all_made s.made ps)) (sym all) f.4;
       of_tables = subst AreOfTables (sym all) (are-append rs ((k, form) ∷ ts) (between_are (length m.functions) k rs g1.promises.2) (is, between_are (length (sb.made.functions ++ None ∷ [])) (length s.made.functions) ts g2.promises.2));
-      function = ap (λ ps. slice_get (all_made s.made ps).functions k) all ∙ f.4;
+      function = ap (λ ps. slice_get (all_made s.made ps).functions k) all ∙ f.5;
+      terminals = f.6;
+      behind = f.7;
+      beside = subst (λ ps. Beside f.0 form (all_made s.made ps)) (sym all) f.8;
     } in
     subst (λ t. Linked m t (name ++ rest) form k) (sym (over-append module_row s0 before (form ∷ after) ∙ ap (λ t. over module_row t after) row)) linked

@@ -61,7 +61,7 @@ untabled_rows s [] a = tabled_same s.made
 untabled_rows s (f ∷ fs) a = tabled_both s.made (module_row s f).made (view.over module_row (module_row s f) fs).made (untabled_row s f a.0 a.1) (untabled_rows (module_row s f) fs a.2)
 
 module _ (g : Grammar) where
-  pub pops : ℕ → List (List ℕ) → List Form
+  unfoldable pub pops : ℕ → List (List ℕ) → List Form
   pops n [] = []
   pops n (ty ∷ types) = pop_function g n ty ∷ pops (n + 1) types
 
@@ -75,7 +75,7 @@ module _ (g : Grammar) where
   pops_whole n [] = tt
   pops_whole n (ty ∷ types) = (refl, pops_whole (n + 1) types)
 
-  pops_plain : (n : ℕ) (types : List (List ℕ)) → AreNoAscent (pops n types)
+  pub pops_plain : (n : ℕ) (types : List (List ℕ)) → AreNoAscent (pops n types)
   unfolding pops
   pops_plain n [] = tt
   pops_plain n (ty ∷ types) = (refl, pops_plain (n + 1) types)
@@ -86,10 +86,10 @@ module _ (g : Grammar) where
   pops_untabled n (ty ∷ types) = (refl, refl, pops_untabled (n + 1) types)
 
   module _ (s : Start) where
-    pub one_own : Bool → ℕ → Production → List Form
+    unfoldable pub one_own : Bool → ℕ → Production → List Form
     one_own b n p = if b then own_function g s n p ∷ [] else []
 
-    pub owns : ℕ → List Production → List Form
+    unfoldable pub owns : ℕ → List Production → List Form
     unfolding one_own
     owns n [] = []
     owns n (p ∷ ps) = one_own (is_called g s p) n p ++ owns (n + 1) ps
@@ -112,7 +112,7 @@ module _ (g : Grammar) where
         by true = (refl, tt)
         by false = tt
 
-    owns_plain : (n : ℕ) (ps : List Production) → AreNoAscent (owns n ps)
+    pub owns_plain : (n : ℕ) (ps : List Production) → AreNoAscent (owns n ps)
     unfolding owns
     owns_plain n [] = tt
     owns_plain n (p ∷ ps) = by (is_called g s p) (owns_plain (n + 1) ps)
@@ -134,7 +134,7 @@ untabled-append : (fs gs : List Form) → AreUntabled fs → AreUntabled gs → 
 untabled-append [] gs a b = b
 untabled-append (f ∷ fs) gs a b = (a.0, a.1, untabled-append fs gs a.2 b)
 
-plain-append : (fs gs : List Form) → AreNoAscent fs → AreNoAscent gs → AreNoAscent (fs ++ gs)
+pub plain-append : (fs gs : List Form) → AreNoAscent fs → AreNoAscent gs → AreNoAscent (fs ++ gs)
 plain-append [] gs a b = b
 plain-append (f ∷ fs) gs a b = (a.0, plain-append fs gs a.1 b)
 
@@ -148,18 +148,18 @@ first_among test [] form after a h = ap (λ b. if b then Some form else first_th
 first_among test (f ∷ before) form after a h = ap (λ b. if b then Some f else first_that test (before ++ form ∷ after)) a.0 ∙ first_among test before form after a.1 h
 
 -- a row that gives another name a number
-abbrev Skips : List ℕ → Form → Type 0
+abbrev pub Skips : List ℕ → Form → Type 0
 Skips q f = (t : Promising) → number_in q (module_row t f).made.names ≡ number_in q t.made.names
 
-abbrev AllSkip : List ℕ → List Form → Type 0
+abbrev pub AllSkip : List ℕ → List Form → Type 0
 AllSkip q [] = Unit {0}
 AllSkip q (f ∷ fs) = Skips q f × AllSkip q fs
 
-skipped : (q : List ℕ) (fs : List Form) (t : Promising) → AllSkip q fs → number_in q (view.over module_row t fs).made.names ≡ number_in q t.made.names
+pub skipped : (q : List ℕ) (fs : List Form) (t : Promising) → AllSkip q fs → number_in q (view.over module_row t fs).made.names ≡ number_in q t.made.names
 skipped q [] t a = refl
 skipped q (f ∷ fs) t a = skipped q fs (module_row t f) a.1 ∙ a.0 t
 
-by_both : (P : Bool → Type 0) → P true → P false → (b : Bool) → P b
+pub by_both : (P : Bool → Type 0) → P true → P false → (b : Bool) → P b
 by_both P t f true = t
 by_both P t f false = f
 
@@ -182,15 +182,15 @@ module _ (g : Grammar) (states : List Lr1State) (s : Start) where
   unfolding pop_functions reduce_functions
   rows_flat = simp (append_assoc, flat-append (pops g 0 (variant_types_shown g)) (owns g s 0 (productions_of g)), pops_flat g 0 (variant_types_shown g), owns_flat g s 0 (productions_of g))
 
-  opened : Unit {0}
+  pub opened : Unit {0}
   unfolding symbol_values action_table action_lookup end_table goto_function terminal_lines expected_list definition implementation token_numbers token_symbols simulation table_parser parser_parts acceptance reduce_function
   opened = tt
 
-  lookup_is : (P : Form → Type 0) → ((t n : List ℕ) → P (leaf part.ActionLookupOne (t ∷ []))) → ((t n : List ℕ) → P (leaf part.ActionLookup (t ∷ n ∷ []))) → P (action_lookup g states)
+  pub lookup_is : (P : Form → Type 0) → ((t n : List ℕ) → P (leaf part.ActionLookupOne (t ∷ []))) → ((t n : List ℕ) → P (leaf part.ActionLookup (t ∷ n ∷ []))) → P (action_lookup g states)
   unfolding action_lookup
   lookup_is P one more = either P (length (terminals_of g) == 1) _ _ (one (state_text g states) []) (more (state_text g states) (decimal (length (terminals_of g))))
 
-  parser_is : (P : Form → Type 0) → ((b : Bool) (holes : List (List ℕ)) (below : List Item) → P (over (parser_part false b) holes below)) → P (table_parser g s (drive_call g))
+  pub parser_is : (P : Form → Type 0) → ((b : Bool) (holes : List (List ℕ)) (below : List Item) → P (over (parser_part false b) holes below)) → P (table_parser g s (drive_call g))
   unfolding table_parser parser_parts
   parser_is P h = h (is_interned g) _ _
 
@@ -202,11 +202,11 @@ module _ (g : Grammar) (states : List Lr1State) (s : Start) where
   unfolding opened
   after_whole = (refl, (refl, (refl, (refl, (refl, (refl, (refl, (refl, (parser_is IsWhole (λ b h e. refl), (refl, (refl, (refl, whole-append (pops g 0 (variant_types_shown g)) (owns g s 0 (productions_of g)) (pops_whole g 0 (variant_types_shown g)) (owns_whole g s 0 (productions_of g))))))))))))))
 
-  before_plain : AreNoAscent rows_before
+  pub before_plain : AreNoAscent rows_before
   unfolding opened
   before_plain = (refl, (refl, (lookup_is (λ f. is_ascent f ≡ false) (λ t n. refl) (λ t n. refl), (refl, tt))))
 
-  after_plain : AreNoAscent rows_after
+  pub after_plain : AreNoAscent rows_after
   unfolding opened
   after_plain = (refl, (refl, (refl, (refl, (refl, (refl, (refl, (refl, (parser_is (λ f. is_ascent f ≡ false) (λ b h e. by_both (λ b. is_ascent (over (parser_part false b) h e) ≡ false) refl refl b), (refl, (refl, (refl, plain-append (pops g 0 (variant_types_shown g)) (owns g s 0 (productions_of g)) (pops_plain g 0 (variant_types_shown g)) (owns_plain g s 0 (productions_of g))))))))))))))
 
@@ -325,7 +325,7 @@ module _ (g : Grammar) (states : List Lr1State) (s : Start) where
   unfolding drive_call
   drive_drives = refl
 
-  parser_rows : parts_of (table_parser g s (drive_call g)) ≡ parse_header g s ∷ source_lines g ∷ drive_call g ∷ []
+  pub parser_rows : parts_of (table_parser g s (drive_call g)) ≡ parse_header g s ∷ source_lines g ∷ drive_call g ∷ []
   unfolding table_parser parser_parts
   parser_rows =
       let rows = parse_header g s ∷ source_lines g ∷ drive_call g ∷ [] in
@@ -376,9 +376,13 @@ module _ (g : Grammar) (states : List Lr1State) (s : Start) where
         eof_table = more.eof_table ∙ ap length (look.tables ∙ ap (λ (l : List Entries). l ++ printed_table (action_table g states) ∷ []) none);
       })
 
-  goto_plain : is_ascent (goto_function g states) ≡ false
+  pub goto_plain : is_ascent (goto_function g states) ≡ false
   unfolding goto_function
   goto_plain = refl
+
+  -- no row is of recursive ascent
+  pub items_plain : AreNoAscent (parts_of (over part.TableItems [] (table_items g states s)))
+  items_plain = subst AreNoAscent (sym item_rows) (plain-append rows_before (goto_function g states ∷ rows_after) before_plain (goto_plain, after_plain))
 
   -- all that is made has the two tables
   pub tables_made : (prefix : List ℕ) (program : Form) → TablesMade (complete prefix program (over part.TableItems [] (table_items g states s)))
@@ -392,13 +396,21 @@ module _ (g : Grammar) (states : List Lr1State) (s : Start) where
       let begun = begun_tabled prefix program in
       let from = source_tabled b.located b.actions.made (parser_of items) in
       let made = rows_tabled m (from.tables ∙ begun.tables) in
-      let of_tables : AreOfTables t.promises = promised_are m (parts_of items) (subst AreNoAscent (sym item_rows) (plain-append rows_before (goto_function g states ∷ rows_after) before_plain (goto_plain, after_plain))) in
+      let of_tables : AreOfTables t.promises = promised_are m (parts_of items) items_plain in
       let stay = tabled_both t.made all (actions_made all b.actions.promises) (tables_stay t.made t.promises of_tables) (actions_tabled all b.actions.promises) in
       record { tables = stay.tables ∙ made.tables; action_table = stay.action_table ∙ made.action_table; eof_table = stay.eof_table ∙ made.eof_table }
 
   pub machine_is : items_driven.machine ≡ implementation g states s
   unfolding items_driven
   machine_is = refl
+
+  pub drive_is : items_driven.drive ≡ drive_call g
+  unfolding items_driven
+  drive_is = refl
+
+  pub parser_found : parser_of (over part.TableItems [] (table_items g states s)) ≡ Some (table_parser g s (drive_call g))
+  unfolding items_driven
+  parser_found = items_driven.is_parser
 
   -- the row that declares the simulation
   pub simulation_declared : Declares (over part.TableItems [] (table_items g states s)) (codes "simulate_reduce") [] (simulation g states s)
@@ -416,5 +428,111 @@ module _ (g : Grammar) (states : List Lr1State) (s : Start) where
         is_plain = refl;
         declares = λ t. refl;
         new = λ m h. skipped q before (promising_of [] m) skips ∙ h;
+        no_action = λ rest. told_apart q (codes "super::action" ++ rest) refl;
+      }
+
+  -- the rows in front of those that look at tokens
+  abbrev rows_ahead : List Form
+  rows_ahead = rows_before ++ goto_function g states ∷ terminal_names g ∷ expected_lines g states ∷ expected_list g states ∷ definition g ∷ implementation g states s ∷ []
+
+  ahead_plain : AreNoAscent rows_ahead
+  unfolding opened
+  ahead_plain = (refl, (refl, (lookup_is (λ f. is_ascent f ≡ false) (λ t n. refl) (λ t n. refl), (refl, (refl, (refl, (refl, (refl, (refl, (refl, tt))))))))))
+
+  -- they skip each name but theirs
+  ahead_skip : (q : List ℕ) → (q ≡ codes "action" → ⊥) → (q ≡ codes "goto" → ⊥) → (q ≡ codes "expected_tokens" → ⊥) → (q ≡ codes "expected_tokens_from_states" → ⊥) → AllSkip q rows_ahead
+  unfolding opened
+  ahead_skip q no_action no_goto no_expected no_states =
+      let skip : (name : List ℕ) → (q ≡ name → ⊥) → (t : Promising) → number_in q (first_numbered name (length t.made.functions) t.made.names) ≡ number_in q t.made.names = λ name ne t. numbered_other q name (length t.made.functions) t.made.names ne in (
+        λ t. refl,
+        (
+          λ t. refl,
+          (
+            lookup_is (Skips q) (λ a b. skip (codes "action") no_action) (λ a b. skip (codes "action") no_action),
+            (
+              λ t. refl,
+              (
+                skip (codes "goto") no_goto,
+                (λ t. ap (number_in q) (terminals_quiet t.made (parts_of (terminal_names g))).1, (skip (codes "expected_tokens") no_expected, (skip (codes "expected_tokens_from_states") no_states, (λ t. refl, (λ t. refl, tt))))),
+              ),
+            ),
+          ),
+        ),
+      )
+
+  -- the rows that declare what looks at tokens
+  pub integers_declared : Declares (over part.TableItems [] (table_items g states s)) (codes "token_to_integer") [] (token_numbers g)
+  unfolding opened
+  integers_declared =
+      let q = codes "token_to_integer" in
+      record {
+        before = rows_ahead;
+        after = token_symbols g ∷ simulation g states s ∷ table_parser g s (drive_call g) ∷ acceptance g states ∷ reduce_function g states s ∷ leaf part.Mismatch [] ∷ reductions_after;
+        rows = item_rows;
+        plain_before = ahead_plain;
+        plain_after = after_plain.1.1.1.1.1.1;
+        is_plain = refl;
+        declares = λ t. refl;
+        new = λ m h. skipped q rows_ahead (promising_of [] m) (ahead_skip q (told_apart q (codes "action") refl) (told_apart q (codes "goto") refl) (told_apart q (codes "expected_tokens") refl) (told_apart q (codes "expected_tokens_from_states") refl)) ∙ h;
+        no_action = λ rest. told_apart q (codes "super::action" ++ rest) refl;
+      }
+
+  pub symbols_declared : Declares (over part.TableItems [] (table_items g states s)) (codes "token_to_symbol") [] (token_symbols g)
+  unfolding opened
+  symbols_declared =
+      let q = codes "token_to_symbol" in
+      let before = rows_ahead ++ token_numbers g ∷ [] in
+      record {
+        before = before;
+        after = simulation g states s ∷ table_parser g s (drive_call g) ∷ acceptance g states ∷ reduce_function g states s ∷ leaf part.Mismatch [] ∷ reductions_after;
+        rows = item_rows;
+        plain_before = plain-append rows_ahead (token_numbers g ∷ []) ahead_plain (refl, tt);
+        plain_after = after_plain.1.1.1.1.1.1.1;
+        is_plain = refl;
+        declares = λ t. refl;
+        new = λ m h. numbered_other q (codes "token_to_integer") (length (view.over module_row (promising_of [] m) rows_ahead).made.functions) (view.over module_row (promising_of [] m) rows_ahead).made.names (told_apart q (codes "token_to_integer") refl)
+            ∙ skipped q rows_ahead (promising_of [] m) (ahead_skip q (told_apart q (codes "action") refl) (told_apart q (codes "goto") refl) (told_apart q (codes "expected_tokens") refl) (told_apart q (codes "expected_tokens_from_states") refl)) ∙ h;
+        no_action = λ rest. told_apart q (codes "super::action" ++ rest) refl;
+      }
+
+  -- the row that declares the list that a stack of states accepts
+  pub expected_declared : Declares (over part.TableItems [] (table_items g states s)) (codes "expected_tokens_from_states") [] (expected_list g states)
+  unfolding opened
+  expected_declared =
+      let q = codes "expected_tokens_from_states" in
+      let before = rows_before ++ goto_function g states ∷ terminal_names g ∷ expected_lines g states ∷ [] in
+      let skips : AllSkip q before = (λ t. refl, (λ t. refl, (lookup_is (Skips q) (λ a b. λ t. numbered_other q (codes "action") (length t.made.functions) t.made.names (told_apart q (codes "action") refl)) (λ a b. λ t. numbered_other q (codes "action") (length t.made.functions) t.made.names (told_apart q (codes "action") refl)), (λ t. refl, (λ t. numbered_other q (codes "goto") (length t.made.functions) t.made.names (told_apart q (codes "goto") refl), (λ t. ap (number_in q) (terminals_quiet t.made (parts_of (terminal_names g))).1, (λ t. numbered_other q (codes "expected_tokens") (length t.made.functions) t.made.names (told_apart q (codes "expected_tokens") refl), tt))))))) in
+      record {
+        before = before;
+        after = definition g ∷ implementation g states s ∷ token_numbers g ∷ token_symbols g ∷ simulation g states s ∷ table_parser g s (drive_call g) ∷ acceptance g states ∷ reduce_function g states s ∷ leaf part.Mismatch [] ∷ reductions_after;
+        rows = item_rows;
+        plain_before = (refl, (refl, (lookup_is (λ f. is_ascent f ≡ false) (λ t n. refl) (λ t n. refl), (refl, (refl, (refl, (refl, tt)))))));
+        plain_after = after_plain.1.1.1;
+        is_plain = refl;
+        declares = λ t. refl;
+        new = λ m h. skipped q before (promising_of [] m) skips ∙ h;
+        no_action = λ rest. told_apart q (codes "super::action" ++ rest) refl;
+      }
+
+  -- the row that declares whether a stack of states accepts a token
+  pub acceptance_declared : Declares (over part.TableItems [] (table_items g states s)) (codes "accepts") [] (acceptance g states)
+  unfolding opened
+  acceptance_declared =
+      let q = codes "accepts" in
+      let behind = token_numbers g ∷ token_symbols g ∷ simulation g states s ∷ table_parser g s (drive_call g) ∷ [] in
+      let ahead = view.over module_row in
+      let skip : (name : List ℕ) → (q ≡ name → ⊥) → (t : Promising) → number_in q (first_numbered name (length t.made.functions) t.made.names) ≡ number_in q t.made.names = λ name ne t. numbered_other q name (length t.made.functions) t.made.names ne in
+      let skips : AllSkip q behind = (skip (codes "token_to_integer") (told_apart q (codes "token_to_integer") refl), (skip (codes "token_to_symbol") (told_apart q (codes "token_to_symbol") refl), (skip (codes "simulate_reduce") (told_apart q (codes "simulate_reduce") refl), (parser_is (Skips q) (λ b h e. by_both (λ b. Skips q (over (parser_part false b) h e)) (λ t. refl) (λ t. refl) b), tt)))) in
+      record {
+        before = rows_ahead ++ behind;
+        after = reduce_function g states s ∷ leaf part.Mismatch [] ∷ reductions_after;
+        rows = item_rows;
+        plain_before = plain-append rows_ahead behind ahead_plain (refl, (refl, (refl, (parser_is (λ f. is_ascent f ≡ false) (λ b h e. by_both (λ b. is_ascent (over (parser_part false b) h e) ≡ false) refl refl b), tt))));
+        plain_after = after_plain.1.1.1.1.1.1.1.1.1.1;
+        is_plain = refl;
+        declares = λ t. refl;
+        new = λ m h.
+            skipped q behind (ahead (promising_of [] m) rows_ahead) skips
+            ∙ skipped q rows_ahead (promising_of [] m) (ahead_skip q (told_apart q (codes "action") refl) (told_apart q (codes "goto") refl) (told_apart q (codes "expected_tokens") refl) (told_apart q (codes "expected_tokens_from_states") refl)) ∙ h;
         no_action = λ rest. told_apart q (codes "super::action" ++ rest) refl;
       }

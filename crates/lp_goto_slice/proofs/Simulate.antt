@@ -112,7 +112,7 @@ rows_added prefix n (r ∷ rs) a ms h t s =
 -- ---- the run
 
 module _ (p : Program) where
-  one_passed : (n i : ℕ) (v : Val) → number_of v ≡ Some (pos i) → passes_any p (test.Between (pos n) (pos n) ∷ []) v ≡ Some (n == i)
+  pub one_passed : (n i : ℕ) (v : Val) → number_of v ≡ Some (pos i) → passes_any p (test.Between (pos n) (pos n) ∷ []) v ≡ Some (n == i)
   one_passed n i v e = ap (λ o. or_else (option_map (between (pos n) (pos n)) o) (Some false)) e ∙ ap (λ b. or_else (Some b) (Some false)) (both n i) ∙ by (n == i)
     where
       both : (n i : ℕ) → between (pos n) (pos n) (pos i) ≡ (n == i)

@@ -2,7 +2,7 @@
 
 ghost use Rattle.std.specs.Prelude.{◌≡◌, [], ◌∷◌, map, option_copied, string_bytes, IfOk};
 ghost use Rattle.lp_notes.specs.Modules.{states_by};
-ghost use Rattle.lp_notes.specs.Notes.{goto_line, notes_by, notes_from, notes_of_module, notes_of_program, one_line, part_notes, production_line, second, state_notes, states_in};
+ghost use Rattle.lp_notes.specs.Notes.{comments_by, goto_line, notes_by, notes_from, notes_of_module, notes_of_program, one_line, part_notes, production_line, second, state_notes, states_in};
 ghost use Rattle.lp_tree.specs.ProgramTree.{all_notes, entry_notes, item, items, lines_note, noted, program_items, program_notes};
 
 use crate::place::{Kind, Place, kind_of, number_told};
@@ -22,38 +22,41 @@ pub enum Modules<'s> {
     Each(&'s [StartStates]),
 }
 
-/// The program with its notes, in place of those that it has.
+/// The program with its notes, in place of those that it has: where the rows of its tables end, the productions
+/// of reductions, and other comments if there are to be any.
 #[tactic(auto, unfolding(crate::specs::Notes::notes_of_program))]
 pub fn noted_program<'t>(
     alloc: Global,
     grammar: &Grammar,
     states: &[StartStates],
+    comments: bool,
     program: Program<'t>,
 ) -> Result<Program<'t>, AllocError>
     ensures prefix { IfOk result (λ p. p.prefix ≡ program.entry.prefix) }
     ensures parts { IfOk result (λ p. program_items p ≡ program_items program.entry) }
-    ensures notes { IfOk result (λ p. program_notes p ≡ notes_of_program grammar.now states.now (program_items program.entry)) }
+    ensures notes { IfOk result (λ p. program_notes p ≡ notes_of_program comments grammar.now states.now (program_items program.entry)) }
 {
-    let source = Source::new(alloc, grammar)?;
+    let source = Source::new(alloc, grammar, comments)?;
     let Program { prefix, entries } = program;
     let modules = Modules::Each(states);
     let entries = noted_entries(alloc, &source, modules, Place::first(), entries)?;
     Ok(Program { prefix, entries })
 }
 
-/// The module with its notes, in place of those that it has.
+/// The node of a module with its notes, in place of those that it has.
 #[tactic(auto, unfolding(crate::specs::Notes::notes_of_module))]
 pub fn noted_module<'t>(
     alloc: Global,
     grammar: &Grammar,
     states: &[Lr1State],
-    module: Node<'t>,
+    comments: bool,
+    node: Node<'t>,
 ) -> Result<Node<'t>, AllocError>
-    ensures parts { IfOk result (λ n. items n ≡ items module.entry) }
-    ensures notes { IfOk result (λ n. all_notes n ≡ notes_of_module grammar.now states.now (items module.entry)) }
+    ensures parts { IfOk result (λ n. items n ≡ items node.entry) }
+    ensures notes { IfOk result (λ n. all_notes n ≡ notes_of_module comments grammar.now states.now (items node.entry)) }
 {
-    let source = Source::new(alloc, grammar)?;
-    let Node { first, below } = module;
+    let source = Source::new(alloc, grammar, comments)?;
+    let Node { first, below } = node;
     let place = Place::first();
     let next = place.behind(kind_of(first.part), first.holes.as_slice())?;
     let first = noted_entry(alloc, &source, states, place, first)?;
@@ -71,7 +74,7 @@ fn noted_entries<'t>(
     entries: Vec<Entry<'t>>,
 ) -> Result<Vec<Entry<'t>>, AllocError>
     ensures parts { IfOk result (λ v. map item v.items ≡ map item entries.entry.items) }
-    ensures notes { IfOk result (λ v. map entry_notes v.items ≡ notes_from source.now.grammar.now (states_by modules.entry) first (map item entries.entry.items)) }
+    ensures notes { IfOk result (λ v. map entry_notes v.items ≡ notes_from source.now.comments source.now.grammar.now (states_by modules.entry) first (map item entries.entry.items)) }
 {
     let mut place = first;
     let mut noted = Vec::new(alloc);
@@ -113,7 +116,7 @@ fn noted_entry<'t>(
     mut entry: Entry<'t>,
 ) -> Result<Entry<'t>, AllocError>
     ensures part { IfOk result (λ e. item e ≡ item entry.entry) }
-    ensures notes { IfOk result (λ e. entry_notes e ≡ part_notes source.now.grammar.now states.now place (item entry.entry)) }
+    ensures notes { IfOk result (λ e. entry_notes e ≡ part_notes source.now.comments source.now.grammar.now states.now place (item entry.entry)) }
 {
     entry.notes = part_notes(alloc, source, states, place, &entry)?;
     Ok(entry)
@@ -127,12 +130,37 @@ fn part_notes<'t>(
     place: Place,
     entry: &Entry<'_>,
 ) -> Result<Vec<RowNote<'t>>, AllocError>
-    ensures { IfOk result (λ v. map noted v.items ≡ part_notes source.now.grammar.now states.now place (item entry.now)) }
+    ensures { IfOk result (λ v. map noted v.items ≡ part_notes source.now.comments source.now.grammar.now states.now place (item entry.now)) }
 {
-    let holes = entry.holes.as_slice();
     match kind_of(entry.part) {
         Kind::Actions => action_rows(alloc, source, states, entry.numbers.as_slice()),
         Kind::Ends => end_rows(alloc, source, entry.numbers.as_slice()),
+        Kind::Reduction => {
+            let production = source.production_told(place.number);
+            production_line(alloc, "// ", production)
+        }
+        kind => {
+            if source.comments {
+                comments_by(alloc, source, states, place, kind, entry.holes.as_slice())
+            } else {
+                Ok(Vec::new(alloc))
+            }
+        }
+    }
+}
+
+/// The comments of a part of a kind that has no other notes, in a module with these states.
+fn comments_by<'t>(
+    alloc: Global,
+    source: &Source<'_>,
+    states: &[Lr1State],
+    place: Place,
+    kind: Kind,
+    holes: &[Piece<'_>],
+) -> Result<Vec<RowNote<'t>>, AllocError>
+    ensures { IfOk result (λ v. map noted v.items ≡ comments_by source.now.grammar.now states.now place kind holes.now) }
+{
+    match kind {
         Kind::State => {
             let number = place.functions;
             state_notes(alloc, source, number, states.get(number))
@@ -145,10 +173,9 @@ fn part_notes<'t>(
             let nonterminal = source.nonterminal_told(place.number);
             goto_line(alloc, nonterminal, second(holes))
         }
-        Kind::Reduction => {
-            let production = source.production_told(place.number);
-            production_line(alloc, "// ", production)
-        }
+        Kind::Reduction => Ok(Vec::new(alloc)),
+        Kind::Actions => Ok(Vec::new(alloc)),
+        Kind::Ends => Ok(Vec::new(alloc)),
         Kind::Module => Ok(Vec::new(alloc)),
         Kind::Numbered => Ok(Vec::new(alloc)),
         Kind::Plain => Ok(Vec::new(alloc)),

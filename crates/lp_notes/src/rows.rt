@@ -1,6 +1,6 @@
 //! The rows of tables, and the comments of their entries.
 
-ghost use Rattle.std.specs.Prelude.{◌≡◌, ◌++◌, map, option_copied, slice_get, string_bytes, IfOk, OnOk};
+ghost use Rattle.std.specs.Prelude.{◌≡◌, [], ◌++◌, map, option_copied, slice_get, string_bytes, IfOk, OnOk};
 ghost use Rattle.lp_repr.specs.Numbering.{productions_of};
 ghost use Rattle.lp_notes.specs.Notes.{action_row, action_rows, comments_from, end_row, end_rows, entry_comment, entry_end, item_line, item_lines, reduced_end};
 ghost use Rattle.lp_tree.specs.ProgramTree.{noted};
@@ -27,7 +27,7 @@ pub(crate) fn action_rows<'t>(
     states: &[Lr1State],
     entries: &[i32],
 ) -> Result<Vec<RowNote<'t>>, AllocError>
-    ensures { IfOk result (λ v. map noted v.items ≡ action_rows source.now.grammar.now 0 entries.now states.now) }
+    ensures { IfOk result (λ v. map noted v.items ≡ action_rows source.now.comments source.now.grammar.now 0 entries.now states.now) }
 {
     let terminals = source.grammar.terminals.all.as_slice().len();
     let mut rows = Vec::new(alloc);
@@ -50,8 +50,11 @@ fn action_row<'t>(
     entries: &[i32],
     state: &Lr1State,
 ) -> Result<RowNote<'t>, AllocError>
-    ensures { IfOk result (λ row. noted row ≡ action_row source.now.grammar.now end entries.now state.now) }
+    ensures { IfOk result (λ row. noted row ≡ action_row source.now.comments source.now.grammar.now end entries.now state.now) }
 {
+    if !source.comments {
+        return Ok(bare_row(alloc, end));
+    }
     let lines = item_lines(alloc, source, state)?;
     let comments = comments(alloc, source, entries)?;
     Ok(RowNote {
@@ -59,6 +62,17 @@ fn action_row<'t>(
         lines,
         comments,
     })
+}
+
+/// A row without comments.
+fn bare_row<'t>(alloc: Global, end: usize) -> RowNote<'t>
+    ensures { noted result ≡ record { end = end; lines = []; comments = [] } }
+{
+    RowNote {
+        end,
+        lines: Vec::new(alloc),
+        comments: Vec::new(alloc),
+    }
 }
 
 /// The comments of the entries of a row.
@@ -83,7 +97,7 @@ pub(crate) fn end_rows<'t>(
     source: &Source<'_>,
     entries: &[i32],
 ) -> Result<Vec<RowNote<'t>>, AllocError>
-    ensures { IfOk result (λ v. map noted v.items ≡ end_rows source.now.grammar.now 0 entries.now) }
+    ensures { IfOk result (λ v. map noted v.items ≡ end_rows source.now.comments source.now.grammar.now 0 entries.now) }
 {
     let mut rows = Vec::new(alloc);
     for (place, entry) in entries.iter().enumerate() {
@@ -99,8 +113,11 @@ fn end_row<'t>(
     end: usize,
     entry: i32,
 ) -> Result<RowNote<'t>, AllocError>
-    ensures { IfOk result (λ row. noted row ≡ end_row source.now.grammar.now end entry) }
+    ensures { IfOk result (λ row. noted row ≡ end_row source.now.comments source.now.grammar.now end entry) }
 {
+    if !source.comments {
+        return Ok(bare_row(alloc, end));
+    }
     let comment = entry_comment(alloc, source, Token::Eof, entry)?;
     Ok(RowNote {
         end,

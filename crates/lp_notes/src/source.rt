@@ -13,6 +13,8 @@ use std::alloc::{AllocError, Global};
 #[derive(Drop)]
 pub struct Source<'g> {
     pub grammar: &'g Grammar,
+    /// Whether there are to be comments.
+    pub comments: bool,
     productions: Vec<&'g Production>,
     nonterminals: Vec<&'g NonterminalString>,
     ghost productions_listed: { map deref productions.items ≡ productions_of grammar.now },
@@ -21,13 +23,19 @@ pub struct Source<'g> {
 
 impl<'g> Source<'g> {
     /// Those of a grammar. The error is want of memory.
-    pub fn new(alloc: Global, grammar: &'g Grammar) -> Result<Source<'g>, AllocError>
-        ensures { IfOk result (λ s. s.grammar.now ≡ grammar.entry.now) }
+    pub fn new(
+        alloc: Global,
+        grammar: &'g Grammar,
+        comments: bool,
+    ) -> Result<Source<'g>, AllocError>
+        ensures grammar { IfOk result (λ s. s.grammar.now ≡ grammar.entry.now) }
+        ensures comments { IfOk result (λ s. s.comments ≡ comments) }
     {
         let productions = productions(alloc, grammar)?;
         let nonterminals = nonterminals(alloc, grammar)?;
         Ok(Source {
             grammar,
+            comments,
             productions,
             nonterminals,
         })

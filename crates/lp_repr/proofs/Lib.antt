@@ -8,3 +8,4 @@ pub mod Joining
 pub mod TreeRows
 pub mod TreeTexts
 pub mod TreeFrees
+pub mod SameTypes

@@ -15,3 +15,4 @@ pub mod ShownTypes
 pub mod ShownValues
 pub mod ShownItems
 pub mod TypeTrees
+pub mod SameTypes

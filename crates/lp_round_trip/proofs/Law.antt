@@ -22,7 +22,7 @@ use Rattle.lp_chosen.proofs.Law.{chosen_is_it, programs_are_chosen}
 use Rattle.lp_printed.proofs.Law.{reads_told}
 use Rattle.lp_emit.specs.Texts.{IsEmission}
 use Rattle.lp_round_trip.proofs.Printed.{bodies_suit_told, printed_suits}
-use Rattle.lp_round_trip.specs.Laws.{FittingIsParted, EmissionTellsBodies, EmissionIsChosen, EmissionIsRead, EmissionIsNotRefused}
+use Rattle.lp_round_trip.specs.Laws.{FittingIsParted, EmissionTellsBodies, EmissionIsChosen, EmissionIsRead, EmissionIsNotRefused, EmissionAgreesAsRead}
 
 parted_within : (prefix : List ℕ) (n : ℕ) (es : List Entry) → All (HolesFit prefix) es → AreParted prefix (forest_within n es)
 unfolding forest_within
@@ -72,6 +72,9 @@ emission_is_read g states options text e chosen c =
     let is = r.1 in
     let same = chosen_is_it text r.0 chosen e.utf8 (emission_told g states options text e r.0 is) c in
     (same.0 ∙ is.prefix, same.1 ∙ ap told_trees is.trees)
+
+pub emission_agrees_as_read : EmissionAgreesAsRead
+emission_agrees_as_read g states options text e by chosen c = e.agrees by chosen (emission_is_read g states options text e chosen c)
 
 pub emission_is_not_refused : EmissionIsNotRefused
 emission_is_not_refused g states options text e line refused =

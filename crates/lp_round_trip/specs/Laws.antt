@@ -11,6 +11,8 @@ use Rattle.lp_fitting.specs.Fitting.{IsFitting}
 use Rattle.lp_shown.specs.Laws.{AreParted}
 use Rattle.lp_chosen.specs.Laws.{BodiesTold}
 use Rattle.lp_printed.specs.Laws.{printed_trees}
+use Rattle.lp_agrees.specs.Agrees.{AllAgree}
+use Rattle.lp_agrees.specs.Emission.{IsAsPrinted, IsByTables}
 use Rattle.lp_emit.specs.Texts.{IsEmission}
 
 -- where the texts of a program may stand where they do, all its holes are parted
@@ -25,10 +27,6 @@ AreBodiesTold options program text = BodiesTold program.prefix text [] (printed_
 abbrev pub EmissionTellsBodies : Type 0
 EmissionTellsBodies = (g : Grammar) (states : List StartStates) (options : Options) (text : List ℕ) (e : IsEmission g states options text) → AreBodiesTold options e.program text
 
--- a program has the prefix of one that was printed, and its trees, as far as a text tells them
-abbrev pub IsAsPrinted : Options → Program → Program → Type 0
-IsAsPrinted options program told = (told.prefix ≡ program.prefix) × (whole told.entries.items ≡ printed_trees options.whitespace program)
-
 -- what is emitted is chosen as each program that is as was printed
 abbrev pub EmissionIsChosen : Type 0
 EmissionIsChosen = (g : Grammar) (states : List StartStates) (options : Options) (text : List ℕ) (e : IsEmission g states options text) (told : Program) → IsAsPrinted options e.program told → IsChosen text told
@@ -40,3 +38,7 @@ EmissionIsRead = (g : Grammar) (states : List StartStates) (options : Options) (
 -- and refused only for want of memory
 abbrev pub EmissionIsNotRefused : Type 0
 EmissionIsNotRefused = (g : Grammar) (states : List StartStates) (options : Options) (text : List ℕ) (e : IsEmission g states options text) (line : ℕ) → IsRefused text (fault.NoForm line) → ⊥
+
+-- where the parsers are by tables, each program that an emission is chosen as agrees with the tables
+abbrev pub EmissionAgreesAsRead : Type 0
+EmissionAgreesAsRead = (g : Grammar) (states : List StartStates) (options : Options) (text : List ℕ) (e : IsEmission g states options text) → IsByTables g.algorithm.codegen → (chosen : Program) → IsChosen text chosen → AllAgree chosen g states

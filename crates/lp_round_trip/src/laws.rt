@@ -1,16 +1,19 @@
 //! Laws between emitting and choosing.
 
 ghost use Rattle.lp_round_trip.specs.Codes.{BodiesSuitTold, CodesAreTold};
-ghost use Rattle.lp_round_trip.specs.Laws.{EmissionIsChosen, EmissionIsNotRefused, EmissionIsRead, EmissionTellsBodies, FittingIsParted};
+ghost use Rattle.lp_round_trip.specs.Laws.{EmissionAgreesAsRead, EmissionIsChosen, EmissionIsNotRefused, EmissionIsRead, EmissionTellsBodies, FittingIsParted};
 
 /// What is emitted tells the bodies of actions, and is chosen as the program that was built of the grammar
 /// and its states, as far as a text tells it, and as no other. So it is never refused but for want of memory.
+/// Where the parsers are by tables, all runs of the program that it is read as are those of the stack machine
+/// over the tables.
 pub fn emissions()
     ensures parted { FittingIsParted }
     ensures bodies { EmissionTellsBodies }
     ensures chosen { EmissionIsChosen }
     ensures read { EmissionIsRead }
     ensures never { EmissionIsNotRefused }
+    ensures agrees { EmissionAgreesAsRead }
 {}
 
 /// User code whose first line that counts begins otherwise than those of inlined actions is told in every

@@ -53,9 +53,9 @@ module _ (rules : List Rule) where
     sound_none sets none n q s e l = absurd (none-some s (sym (none n) ∙ e))
 
     -- the kernel's items so far ask for what is there, where some are left
-    pub record KernelAsked (left : List Entry) (sets : AskedMap) (todo : List ℕ) : Type 0 where
+    pub record KernelAsked (left : List Entry) (sets : AskedMap) (queue : List ℕ) : Type 0 where
       pub covers : (p d : ℕ) (s : TokenSet) → lookaheads_at kernel p d ≡ Some s → Contains left ((p, d), s) ⊎ Covers rules sets p d s
-      pub work : IsSpreadOrWork rules sets todo
+      pub work : IsSpreadOrWork rules sets queue
       pub sound : IsSoundAsked rules kernel sets
 
     pub kernel_none : (sets : AskedMap) (work : List ℕ) → tree.IsOrdered item_cmp kernel → ((n : ℕ) → tree.get nat_cmp sets n ≡ None) → KernelAsked kernel.entries sets work

@@ -8,6 +8,7 @@ use Rattle.lp_repr.specs.Numbering.{terminals_of}
 use Rattle.lp_repr.specs.Shown.{pattern_text}
 use Rattle.lp_repr.specs.declared.repr.Grammar.{Grammar}
 use Rattle.lp_repr.specs.declared.repr.TerminalString.{TerminalString}
+use Rattle.lp_repr.specs.declared.repr.TerminalString.TheVariants.{Quoted, Bare, Error}
 use Rattle.lp_repr.specs.declared.repr.TokenPattern.{TokenPattern}
 use Rattle.lp_tree.specs.ProgramTree.{Item}
 use Rattle.lp_build.specs.Built.{over, row}
@@ -41,6 +42,12 @@ named_pieces prefix (piece ∷ pieces) = piece ++ pieces_from prefix 0 pieces
 abbrev pub named_pattern : List ℕ → TokenPattern → List ℕ
 named_pattern prefix p = named_pieces prefix p.pieces
 
+-- the pattern of a terminal; the error terminal stands for no token
+abbrev pub own_pattern : Grammar → TerminalString → Option TokenPattern
+own_pattern g (Quoted text) = get terminal_cmp g.conversions (Quoted text)
+own_pattern g (Bare name) = get terminal_cmp g.conversions (Bare name)
+own_pattern g Error = None
+
 -- a terminal with a pattern, by its number
 abbrev pub integer_row : ℕ → Option TokenPattern → List Item
 integer_row n None = []
@@ -48,7 +55,7 @@ integer_row n (Some p) = row part.IntegerRow (pattern_text p ∷ decimal n ∷ [
 
 abbrev pub integer_rows : Grammar → ℕ → List TerminalString → List Item
 integer_rows g n [] = []
-integer_rows g n (t ∷ ts) = integer_row n (get terminal_cmp g.conversions t) ++ integer_rows g (n + 1) ts
+integer_rows g n (t ∷ ts) = integer_row n (own_pattern g t) ++ integer_rows g (n + 1) ts
 
 -- the number of a token's terminal
 abbrev pub token_reference : Grammar → List ℕ
@@ -75,7 +82,7 @@ abbrev pub terminal_variant : Grammar → ℕ → ℕ
 terminal_variant g n = unwrap_or (slice_get (terminal_variants g) n) 0
 
 abbrev pub known_one : Grammar → ℕ → TerminalString → List Known
-known_one g n t = if_known n (terminal_variant g n) (get terminal_cmp g.conversions t)
+known_one g n t = if_known n (terminal_variant g n) (own_pattern g t)
 
 -- the terminals with a pattern, from a number on
 abbrev pub known_from : Grammar → ℕ → List TerminalString → List Known

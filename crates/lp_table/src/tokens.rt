@@ -5,7 +5,7 @@ ghost use Rattle.std.specs.List.{flat_map, list_any};
 ghost use Rattle.lp_build.specs.Tables.{integer_row as arm_row};
 ghost use Rattle.lp_repr.specs.Shown.{pattern_text};
 ghost use Rattle.lp_table.specs.KnownTerminals.{known_as};
-ghost use Rattle.lp_table.specs.TokenLines.{capture_name, capture_names, captured_value, group_arm, group_of, group_patterns, groups_of, in_group, integer_row, integer_rows, known_from, known_one, named_pattern, number_of, number_type, pattern_of, pieces_from, same_group, symbols_header, terminal_variant, token_index, token_numbers, token_reference, token_symbols, token_value, with_group};
+ghost use Rattle.lp_table.specs.TokenLines.{capture_name, capture_names, captured_value, group_arm, group_of, group_patterns, groups_of, in_group, integer_row, integer_rows, known_from, known_one, named_pattern, number_of, number_type, own_pattern, pattern_of, pieces_from, same_group, symbols_header, terminal_variant, token_index, token_numbers, token_reference, token_symbols, token_value, with_group};
 ghost use Rattle.lp_tree.specs.ProgramTree.{items};
 
 use crate::headers::token_header;
@@ -122,9 +122,20 @@ fn integer_arms<'t>(
 {
     let mut arms = Vec::new(alloc);
     for (number, terminal) in terminals.iter().enumerate() {
-        push_integer(alloc, &mut arms, number, grammar.conversions.get(terminal))?;
+        push_integer(alloc, &mut arms, number, own_pattern(grammar, terminal))?;
     }
     Ok(arms)
+}
+
+/// The pattern of a terminal. The error terminal has none: it stands for no token.
+fn own_pattern<'g>(grammar: &'g Grammar, terminal: &TerminalString) -> Option<&'g TokenPattern>
+    ensures { option_copied result ≡ own_pattern grammar.entry.now terminal.now }
+{
+    match terminal {
+        TerminalString::Quoted(_) => grammar.conversions.get(terminal),
+        TerminalString::Bare(_) => grammar.conversions.get(terminal),
+        TerminalString::Error => None,
+    }
 }
 
 /// Adds a terminal that has a pattern.
@@ -189,7 +200,7 @@ fn push_known<'t>(
 {
     let grammar = shared.grammar;
     let variant = terminal_variant(shared, number);
-    match grammar.conversions.get(terminal) {
+    match own_pattern(grammar, terminal) {
         None => Ok(()),
         Some(pattern) => {
             known.push(Known {

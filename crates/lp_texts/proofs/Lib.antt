@@ -7,5 +7,6 @@ pub mod Counting
 pub mod EachKind
 pub mod FirstPlaces
 pub mod Words
+pub mod Outside
 pub mod Holes
 pub mod NamePlaces

@@ -1,5 +1,5 @@
 -- The brackets of a text that are open outside its quotes. They are named by their closers, the innermost first.
-use Rattle.std.specs.Prelude.{◌≡◌, ℕ, ◌==◌, Bool, ◌||◌, List, ◌∷◌, drop, if◌then◌else◌}
+use Rattle.std.specs.Prelude.{◌≡◌, ℕ, ◌==◌, Bool, ◌||◌, List, [], ◌∷◌, drop, if◌then◌else◌}
 use Rattle.lp_tok.specs.Signs.{left_parenthesis, right_parenthesis, left_bracket, right_bracket, left_brace, right_brace}
 use Rattle.lp_texts.specs.Quotes.{Piece, Quote, Unended, Single, Nothing, piece}
 
@@ -33,3 +33,7 @@ step_over brackets Nothing = Stuck
 pub data Leads : List ℕ → List ℕ → List ℕ → List ℕ → Type 0 where
   leads_none : (text before : List ℕ) → Leads text before text before
   leads_one : (text before next inner rest brackets : List ℕ) → step_over before (piece text) ≡ Onward next inner → Leads next inner rest brackets → Leads text before rest brackets
+
+-- the place i of a text stands outside quotes
+abbrev pub IsOutside : List ℕ → ℕ → Type 0
+IsOutside text i = (brackets : List ℕ) × Leads text [] (drop i text) brackets

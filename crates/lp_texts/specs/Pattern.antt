@@ -3,6 +3,7 @@ use Rattle.std.specs.Prelude.{◌≡◌, ℕ, Option, Bool, true, false, ◌||�
 use Rattle.std.specs.List.{join_by}
 use Rattle.std.specs.Str.{chars}
 use Rattle.unicode_ident.specs.Ident.{is_xid_continue}
+use Rattle.lp_texts.specs.Brackets.{IsOutside}
 use Rattle.lp_texts.specs.FirstWrong.{IsFirst}
 use Rattle.lp_texts.specs.OneLine.{begins, IsWrong}
 
@@ -21,13 +22,14 @@ ends test (c ∷ d ∷ cs) = ends test (d ∷ cs)
 abbrev pub is_beside_word : List ℕ → List ℕ → Bool
 is_beside_word before behind = ends is_xid_continue (chars before) || begins is_xid_continue (chars behind)
 
--- the byte i of a pattern is the `_` of such a hole, which stands between this number of pieces and the others
+-- the byte i of a pattern is the `_` of a hole, between this number of pieces and the others, that stands beside
+-- such a character or in a quote
 pub record IsWrongHole (pieces : List (List ℕ)) (i : ℕ) : Type 0 where
   pub number : ℕ
   pub some_before : 0 < number
   pub some_behind : number < length pieces
   pub place : i ≡ length (joined (take number pieces))
-  pub is_beside : IsTrue (is_beside_word (joined (take number pieces)) (joined (drop number pieces)))
+  pub wrong : IsTrue (is_beside_word (joined (take number pieces)) (joined (drop number pieces))) ⊎ (¬ IsOutside (joined pieces) i)
 
 -- the byte i of a pattern is wrong
 abbrev pub IsWrongPattern : List (List ℕ) → ℕ → Type 0

@@ -1,13 +1,15 @@
 //! The rules on patterns.
 
-ghost use Rattle.std.specs.Prelude.{◌≡◌, [], ◌∷◌, ◌++◌, IfOk, MatchOption};
+ghost use Rattle.std.specs.Prelude.{◌≡◌, ◌≤◌, ◌↔◌, [], ◌∷◌, ◌++◌, length, IsTrue, IfOk, MatchOption};
 ghost use Rattle.std.specs.Str.{chars};
 ghost use Rattle.unicode_ident.specs.Ident.{is_xid_continue};
+ghost use Rattle.lp_texts.specs.Brackets.{IsOutside};
 ghost use Rattle.lp_texts.specs.FirstWrong.{IsFirst, least};
 ghost use Rattle.lp_texts.specs.OneLine.{begins};
 ghost use Rattle.lp_texts.specs.Pattern.{joined, ends, is_beside_word, IsWrongHole, AnswersPattern};
 
 use crate::line::line_fault;
+use crate::quotes::{Found, piece_at};
 use lp_repr::Text;
 use lp_repr::repr::TokenPattern;
 use std::alloc::{AllocError, Global};
@@ -68,16 +70,41 @@ fn is_beside_word(before: &str, behind: &[Text]) -> bool
     ends_word(before) || begins_word_joined(behind)
 }
 
-/// The first hole that stands beside a character of a word or another hole.
-fn hole_fault(alloc: Global, pieces: &[Text]) -> Result<Option<usize>, AllocError>
+/// Whether a place stands outside quotes, from one before it that does.
+fn is_outside(text: &[u8], from: usize, place: usize) -> bool
+    requires start { IsOutside text.now from }
+    requires ahead { from ≤ place }
+    requires within { place ≤ length text.now }
+    ensures { IsTrue result ↔ IsOutside text.now place }
+{
+    let mut at = from;
+    while at < place {
+        match piece_at(text, at) {
+            Found::Single => at += 1,
+            Found::Quote(end) => at = end,
+            Found::Unended => return false,
+        }
+    }
+    at == place
+}
+
+/// The first hole that stands beside a character of a word or another hole, or in a quote.
+fn hole_fault(alloc: Global, pieces: &[Text], text: &[u8]) -> Result<Option<usize>, AllocError>
+    requires { text.now ≡ joined pieces.now }
     ensures { IfOk result (IsFirst (IsWrongHole pieces.now)) }
 {
     let mut before = String::new(alloc);
+    let mut at = 0;
     for i in 0..pieces.len() {
         if i > 0 {
+            let place = before.len();
             if is_beside_word(before.as_str(), &pieces[i..]) {
-                return Ok(Some(before.len()));
+                return Ok(Some(place));
             }
+            if !is_outside(text, at, place) {
+                return Ok(Some(place));
+            }
+            at = place;
             before.push_str("_")?;
         }
         before.push_str(pieces[i].as_str())?;
@@ -105,6 +132,6 @@ pub(crate) fn pattern_fault(
 {
     let text = pattern.to_string(alloc)?;
     let line = line_fault(alloc, text.as_str(), true)?;
-    let hole = hole_fault(alloc, pattern.pieces.as_slice())?;
+    let hole = hole_fault(alloc, pattern.pieces.as_slice(), text.as_bytes())?;
     Ok(first_of(line, hole))
 }

@@ -4,6 +4,7 @@ pub mod CutSteps
 pub mod Found
 pub mod Readings
 pub mod Unescaped
+pub mod Unclosed
 pub mod Orders
 pub mod OneList
 pub mod SeenSoFar

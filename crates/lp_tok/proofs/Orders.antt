@@ -1,11 +1,11 @@
 -- The spans of what is read are in order.
-use Rattle.std.proofs.Common.{◌≡◌, ℕ, ◌+◌, ◌-◌, ◌≤◌, List, [], ◌∷◌, ◌++◌, length, refl, sym, ap, ◌∙◌, subst, append_assoc, append-nil, length-append, arith, Ok, Err}
+use Rattle.std.proofs.Common.{◌≡◌, ℕ, ◌+◌, ◌-◌, ◌≤◌, List, [], ◌∷◌, ◌++◌, length, sym, ap, ◌∙◌, subst, append_assoc, append-nil, length-append, arith, Ok, Err}
 use Rattle.lp_tok.specs.declared.rest.Rest.{Rest}
 use Rattle.lp_tok.specs.declared.tok.ErrorCode.{ErrorCode}
-use Rattle.lp_tok.specs.declared.tokenizer.Tokenizer.{Tokenizer}
-use Rattle.lp_tok.specs.Left.{Follows, EndsIn}
+use Rattle.lp_tok.specs.declared.unread.Tokenizer.{Tokenizer}
+use Rattle.lp_tok.specs.Left.{Follows}
 use Rattle.lp_tok.specs.Token.{Token, Symbol, Text, IsSymbol, Item}
-use Rattle.lp_tok.specs.Spans.{StandsBetween, TextInside, InOrder, IsLeftOf, place_of}
+use Rattle.lp_tok.specs.Spans.{TextInside, InOrder, IsLeftOf, place_of}
 use Rattle.lp_tok.specs.Reads.{TextFollows, TokensLeft}
 
 -- no more bytes are left of what follows

@@ -2,7 +2,7 @@
 use Rattle.std.proofs.Common.{◌≡◌, ℕ, List, [], ◌∷◌, ◌++◌, refl, sym, ap, ◌∙◌, subst, append-nil, arith}
 use Rattle.std.specs.Prelude.{Option, None}
 use Rattle.lp_tok.specs.declared.tok.Error.{Error}
-use Rattle.lp_tok.specs.declared.tokenizer.Tokenizer.{Tokenizer}
+use Rattle.lp_tok.specs.declared.unread.Tokenizer.{Tokenizer}
 use Rattle.lp_tok.specs.Token.{Item}
 use Rattle.lp_tok.specs.Tokens.{AreTokensOf, error_among, HasOneList}
 use Rattle.lp_tok.specs.Spans.{InOrder, IsLeftOf, place_of}

@@ -4,7 +4,7 @@ use Rattle.std.specs.Str.{chars}
 use Rattle.lp_tok.specs.declared.rest.Rest.{Rest}
 use Rattle.lp_tok.specs.declared.tok.Tok.{Tok}
 use Rattle.lp_tok.specs.declared.tok.Error.{Error}
-use Rattle.lp_tok.specs.declared.tokenizer.Tokenizer.{Tokenizer}
+use Rattle.lp_tok.specs.declared.unread.Tokenizer.{Tokenizer}
 use Rattle.lp_tok.specs.declared.tokenizer.Reading.{Reading}
 use Rattle.lp_tok.specs.declared.tokenizer.Reading.TheVariants as reading
 use Rattle.lp_tok.specs.Left.{left, size, Follows}

@@ -1,6 +1,7 @@
 -- Where words, strings, raw strings and comments end. Each definition takes the characters that are
 -- left and gives those that follow.
 use Rattle.std.specs.Prelude.{ℕ, ◌+◌, ◌-◌, ◌==◌, Bool, ◌&&◌, ◌||◌, List, [], ◌∷◌, Option, Some, None, zero, suc, if◌then◌else◌}
+use Rattle.std.specs.List.{list_any}
 use Rattle.unicode_ident.specs.Ident.{is_xid_start, is_xid_continue}
 use Rattle.lp_tok.specs.Signs.{line_feed, quote, hash, star, slash, left_bracket, backslash, right_bracket, underscore}
 
@@ -103,3 +104,7 @@ after_attribute NoString n (c ∷ cs) =
     else (if c == right_bracket then (if n == 0 then Some cs else after_attribute NoString (n - 1) cs)
     else (if c == line_feed then None
     else after_attribute NoString n cs)))
+
+-- whether a `]` is among them
+abbrev pub has_closer : List ℕ → Bool
+has_closer cs = list_any (λ c. c == right_bracket) cs

@@ -1,6 +1,6 @@
 -- The spans of tokens: one after the other, each with its token's text inside.
 use Rattle.std.specs.Prelude.{◌≡◌, ℕ, ◌+◌, ◌-◌, ◌≤◌, List, [], ◌∷◌, ◌++◌, length, Ok, Err}
-use Rattle.lp_tok.specs.declared.tokenizer.Tokenizer.{Tokenizer}
+use Rattle.lp_tok.specs.declared.unread.Tokenizer.{Tokenizer}
 use Rattle.lp_tok.specs.Left.{EndsIn}
 use Rattle.lp_tok.specs.Token.{Token, Symbol, Text, Item}
 

@@ -9,9 +9,11 @@ mod rest;
 mod scan;
 mod tok;
 mod tokenizer;
+mod unread;
 mod word;
 
 pub use cut::{closed_code, closed_use, code_end};
 pub use escapes::{EscapeError, apply_string_escapes};
 pub use tok::{Error, ErrorCode, Spanned, Tok};
-pub use tokenizer::{Tokenizer, first_error};
+pub use tokenizer::first_error;
+pub use unread::Tokenizer;

@@ -1,11 +1,13 @@
 //! The tokens of a text, one at a time.
 #![tactic(auto, using(crate::proofs::Lefts::follows_follows, crate::proofs::Lefts::follows_itself, crate::proofs::Lefts::alone_follows))]
 
-ghost use Rattle.std.specs.Prelude.{◌≡◌, ◌+◌, ◌-◌, ◌^◌, ◌<◌, ◌≤◌, ◌↔◌, List, [], ◌∷◌, length};
+ghost use Rattle.std.specs.Prelude.{◌≡◌, ◌+◌, ◌-◌, ◌^◌, ◌<◌, ◌≤◌, ◌↔◌, List, [], ◌∷◌, length, true, false};
 ghost use Rattle.std.specs.Str.{chars};
 ghost use Rattle.std.specs.Iterator.{at_most};
 ghost use Rattle.lp_tok.specs.Left.{left, size, Follows};
 ghost use Rattle.lp_tok.specs.Token.{Item};
+ghost use Rattle.lp_tok.specs.Scans.{has_closer};
+ghost use Rattle.lp_tok.specs.Found.{piece_of, TakesSome};
 ghost use Rattle.lp_tok.specs.Pieces.{Cut};
 ghost use Rattle.lp_tok.specs.WordPieces.{first_piece};
 ghost use Rattle.lp_tok.specs.Tokens.{place, AreTokensOf, HasOneList};
@@ -14,16 +16,10 @@ ghost use Rattle.lp_tok.specs.Reads.{IsReadFrom, TokensLeft, GivesNext};
 
 use crate::cut::{CutEnd, cut};
 use crate::piece::{Piece, Texted, before, with_text};
-use crate::rest::{Rest, whole};
+use crate::rest::{Rest, past, whole};
 use crate::tok::{Error, ErrorCode, Spanned, Tok};
+use crate::unread::{Tokenizer, is_unclosed};
 use crate::word::first_piece;
-
-/// Reads the tokens of a grammar file. After its first error it answers None.
-#[derive(Drop)]
-pub struct Tokenizer<'input> {
-    rest: &'input str,
-    end: usize,
-}
 
 impl<'input> Tokenizer<'input> {
     /// Stands before the first token of the text. Places are bytes from the front of the text,
@@ -37,6 +33,7 @@ impl<'input> Tokenizer<'input> {
         Tokenizer {
             rest: text,
             end: text.len() + shift,
+            unclosed: false,
         }
     }
 }
@@ -50,14 +47,32 @@ enum Reading<'a> {
     End,
 }
 
+/// The first piece. Where no `]` is left, a `#` is a token of its own.
+fn next_piece<'a>(start: Rest<'a>, unclosed: bool) -> Piece<'a>
+    requires alone { start.behind.now ≡ [] }
+    requires none_left { unclosed ≡ true → has_closer start.text.now ≡ false }
+    ensures value { piece_of result ≡ first_piece (left start.entry) }
+    ensures takes { TakesSome start.entry result }
+{
+    if unclosed {
+        if let [b'#', ..] = start.text.as_bytes() {
+            if let Some(after) = past(start, '#') {
+                return Piece::Whole(Tok::Hash, after);
+            }
+        }
+    }
+    first_piece(start)
+}
+
 /// The first token or error. Blanks and comments before it are passed.
-fn read<'a>(from: Rest<'a>) -> Reading<'a>
-    requires { from.behind.now ≡ [] }
+fn read<'a>(from: Rest<'a>, unclosed: bool) -> Reading<'a>
+    requires alone { from.behind.now ≡ [] }
+    requires none_left { unclosed ≡ true → has_closer from.text.now ≡ false }
     ensures { IsReadFrom from.entry result }
 {
     let mut start = from;
     loop {
-        match first_piece(start) {
+        match next_piece(start, unclosed) {
             Piece::Gap(after) => start = after,
             Piece::Whole(token, after) => return Reading::Token(start, token, after, after),
             Piece::Text(kind, front, to, after) => {
@@ -98,8 +113,9 @@ impl<'input> Iterator for Tokenizer<'input> {
 
     fn next(&mut self) -> Option<Result<Spanned<Tok<'input>>, Error>> {
         let end = self.end;
-        match read(whole(self.rest)) {
+        match read(whole(self.rest), self.unclosed) {
             Reading::Token(start, token, stop, after) => {
+                self.unclosed = is_unclosed(self.unclosed, &token, after.text);
                 self.rest = after.text;
                 Some(Ok((place(end, start.text), token, place(end, stop.text))))
             }

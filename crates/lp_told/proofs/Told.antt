@@ -11,7 +11,7 @@ use Rattle.lp_driver.specs.Turns as driver
 use Rattle.lp_driver.specs.Values.{Text, Token, Value}
 use Rattle.lp_core.specs.Store.{Program}
 use Rattle.lp_core.specs.Val.{Val}
-use Rattle.lp_machine.specs.GrammarTables.{grammar_tables, error_of}
+use Rattle.lp_machine.specs.GrammarTables.{grammar_tables}
 use Rattle.lp_machine.specs.Tables.{Tables}
 use Rattle.lp_maker.specs.declared.methods.Methods.{Methods}
 use Rattle.lp_turns.specs.declared.runner.Runner.{Runner}
@@ -21,7 +21,7 @@ use Rattle.lp_turns.specs.Readings.{field_values}
 use Rattle.lp_run.specs.ProgramRun.{driver_finish, first_asked, driven, with_fields, by_driver}
 use Rattle.lp_paths.specs.Over.{IsOver}
 use Rattle.lp_alike.specs.Answered.{AnswersBy}
-use Rattle.lp_alike.specs.Course.{AreKnown}
+use Rattle.lp_alike.specs.Course.{AreKnown, rate}
 use Rattle.lp_alike.specs.Runs.{Course, Comes, Stops}
 use Rattle.lp_alike.proofs.Runs.{run_follows}
 use Rattle.lp_asked.specs.Runners.{Asks, left, seen}
@@ -37,23 +37,23 @@ budget_less n budget c most k is less more =
 none_less : (budget most k : ℕ) → budget ≡ 0 → 0 < most → budget < most * (k + 1)
 none_less budget most k is some = omega arith
 
-module _ (g : Grammar) (states : List Lr1State) (items : List RunItem) (params : List Text) (failing : List ℕ) (cost most budget : ℕ) (more : 5 * cost < most) where
+module _ (g : Grammar) (states : List Lr1State) (items : List RunItem) (params : List Text) (failing : List ℕ) (cost most budget : ℕ) (more : rate (grammar_tables g states Trial params failing) * cost < most) where
   abbrev t : Tables
   t = grammar_tables g states Trial params failing
 
   -- what a driver's course tells
   course_told : (d : Runner) (next : Next Val Runner) → suc d.left ≡ budget → Course left seen as_user t cost items d next → Told g states Trial items params failing most budget (driver_finish budget next)
   course_told d _ is (Comes e x m so calls) = (m, so, sym calls)
-  course_told d _ is (Stops x m front bound) = (refl, (m, front), λ k e h. budget_less d.left budget (5 * cost) most k is (bound k e h) more)
+  course_told d _ is (Stops x m front bound) = (refl, (m, front), λ k e h. budget_less d.left budget (rate t * cost) most k is (bound k e h) more)
 
   module _ {start : ℕ} (over_tables : IsOver g start states t) (Is : SymbolNumber → Val → Value → Type 0) (Known : Token → Type 0) (p : Program) (methods : Methods) (fields : List (Option ℕ)) (closure : Option ℕ)
-      (by : AnswersBy program_answers left seen (Asks (record { program = p; fields = fields }) methods closure) as_user g states t Is Known cost) (no_error : error_of g ≡ None) (known : AreKnown Known items)
+      (by : AnswersBy program_answers left seen (Asks (record { program = p; fields = fields }) methods closure) as_user g states t Is Known cost) (known : AreKnown Known items)
       (on_items : p.items ≡ items) (vs : List Val) (has_fields : field_values [] fields ≡ Some vs) where
     started_told : (n : ℕ) → suc n ≡ budget → Told g states Trial items params failing most budget (driven items budget (first_asked p methods fields closure n))
     started_told n is =
         let d : Runner = first_asked p methods fields closure n in
         course_told d (driver.run program_answers (suc n) items d) is
-        (run_follows program_answers left seen (Asks (record { program = p; fields = fields }) methods closure) as_user over_tables Is Known cost by no_error refl items known stuck_of program_law d (record { program = refl; by = refl; source = refl }) refl)
+        (run_follows program_answers left seen (Asks (record { program = p; fields = fields }) methods closure) as_user over_tables Is Known cost by refl items known stuck_of program_law d (record { program = refl; by = refl; source = refl }) refl)
 
     steps_told : (n : ℕ) → n ≡ budget → Told g states Trial items params failing most budget (by_driver p methods fields closure budget n)
     steps_told zero is = (refl, (0, (_, refl)), λ k e h. none_less budget most k (sym is) (omega arith))

@@ -4,7 +4,7 @@ use Rattle.std.specs.Prelude.{map, reverse}
 use Rattle.std.proofs.lemmas.List.{reverse-append, reverse-reverse, map-append}
 use Rattle.lp_tok.specs.declared.tok.Error.{Error}
 use Rattle.lp_tok.specs.declared.tok.Tok.{Tok}
-use Rattle.lp_tok.specs.declared.tokenizer.Tokenizer.{Tokenizer}
+use Rattle.lp_tok.specs.declared.unread.Tokenizer.{Tokenizer}
 use Rattle.lp_tok.specs.Token.{Item, item_of}
 use Rattle.lp_tok.specs.Tokens.{AreTokensOf}
 use Rattle.lp_tok.specs.Reads.{TokensLeft}

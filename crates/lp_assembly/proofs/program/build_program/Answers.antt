@@ -20,5 +20,5 @@ returns c =
     (front_lines c.args.grammar.now) modules (token_lines c.args.grammar.now c.args.grammar.now.intern_token) actions (triple_lines c.args.grammar.now)
     none c.in_ok-add_front.ensures c.in_ok-put_all.ensures c.in_ok-add_tokens.ensures functions last in
     let prefix : c.in_ok-bare.bare.prefix ≡ c.args.grammar.now.prefix = search rules in
-    built c.args.grammar.now c.args.states.now c.in_ok-bare.bare c.noted_program.result modules c.put.new.nodes.items c.in_ok-modules.ensures lines prefix c.in_ok-bare.ensures.parts
+    built c.args.comments c.args.grammar.now c.args.states.now c.in_ok-bare.bare c.noted_program.result modules c.put.new.nodes.items c.in_ok-modules.ensures lines prefix c.in_ok-bare.ensures.parts
     c.noted_program.ensures.prefix c.noted_program.ensures.parts c.noted_program.ensures.notes

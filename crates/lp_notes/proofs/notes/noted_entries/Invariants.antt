@@ -10,5 +10,5 @@ abbrev pub invariant-loop-entry : goal.invariant-loop-entry
 invariant-loop-entry l = record {
   parts : map item l.noted.items ≡ map item l.yielded;
   place : l.place ≡ walked l.initial.place (map item l.yielded);
-  notes : map entry_notes l.noted.items ≡ notes_from l.source.grammar.now (states_by l.modules) l.initial.place (map item l.yielded);
+  notes : map entry_notes l.noted.items ≡ notes_from l.source.comments l.source.grammar.now (states_by l.modules) l.initial.place (map item l.yielded);
 }

@@ -6,5 +6,5 @@ use Rattle.lp_notes.proofs.rows.action_rows.Given as goal
 
 abbrev pub invariant-loop-state : goal.invariant-loop-state
 invariant-loop-state l =
-    map noted l.rows.items ++ action_rows l.source.grammar.now l.end l.left (drop l.state-index l.states)
-    ≡ action_rows l.source.grammar.now 0 l.entries l.states
+    map noted l.rows.items ++ action_rows l.source.comments l.source.grammar.now l.end l.left (drop l.state-index l.states)
+    ≡ action_rows l.source.comments l.source.grammar.now 0 l.entries l.states

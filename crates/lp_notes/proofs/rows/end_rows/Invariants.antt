@@ -6,5 +6,5 @@ use Rattle.lp_notes.proofs.rows.end_rows.Given as goal
 
 abbrev pub invariant-loop-place : goal.invariant-loop-place
 invariant-loop-place l =
-    map noted l.rows.items ++ end_rows l.source.grammar.now l.place (drop l.place l.entries)
-    ≡ end_rows l.source.grammar.now 0 l.entries
+    map noted l.rows.items ++ end_rows l.source.comments l.source.grammar.now l.place (drop l.place l.entries)
+    ≡ end_rows l.source.comments l.source.grammar.now 0 l.entries

@@ -1,9 +1,12 @@
-use Rattle.std.proofs.Common.{true, sym, ◌∙◌, subst}
+use Rattle.std.proofs.Common.{true, sym, ap, ◌∙◌, subst}
 use Rattle.lp_texts.specs.FirstWrong.{IsFirst}
 use Rattle.lp_texts.specs.OneLine.{IsWrong}
 use Rattle.lp_texts.specs.Pattern.{joined, IsWrongHole, IsWrongPattern}
 use Rattle.lp_texts.proofs.FirstPlaces.{first_of_both}
 use Rattle.lp_texts.proofs.pattern.pattern_fault.Goals as goal
+
+pub hole_fault-requires : goal.hole_fault-requires
+hole_fault-requires c = c.as_bytes.ensures.value ∙ c.in_ok-text.ensures.ok ∙ ap joined (sym c.as_slice.ensures)
 
 pub returns : goal.returns
 returns c =

@@ -1,4 +1,6 @@
-use Rattle.std.proofs.Common.{subst, refl, []}
+use Rattle.std.proofs.Common.{subst, refl, [], ap, ◌∙◌}
+use Rattle.lp_tok.specs.Scans.{has_closer}
+use Rattle.lp_tok.proofs.Unclosed.{none_at_end}
 use Rattle.lp_tok.specs.Tokens.{AreTokens, tokens_none}
 use Rattle.lp_tok.proofs.Lefts.{left_alone, alone_follows}
 use Rattle.lp_tok.proofs.Readings.{next_token, next_error, no_tokens, nothing_left}
@@ -34,3 +36,7 @@ returns-in-End-clause-steps c = (
   subst (λ x. AreTokens c.args.self.now.end x []) c.whole.ensures.value (c.in-End.ensures c.args.self.now.end),
   tokens_none _ nothing_left,
 )
+
+-- where no `]` was left, none is left after the token
+pub is_unclosed-self-requires : goal.is_unclosed-self-requires
+is_unclosed-self-requires c closed = none_at_end c.whole.result c.in-Token.after c.in-Token.ensures.3 (ap has_closer c.whole.ensures.text ∙ c.args.self.now.none_left closed)

@@ -1,0 +1,10 @@
+pub mod Bindings
+pub mod Params
+pub mod Performs
+pub mod Stands
+pub mod Keys
+pub mod Forms
+pub mod InlineForms
+pub mod Inlined
+pub mod Callable
+pub mod Nesting

@@ -1,0 +1,17 @@
+pub mod Lines
+pub mod Turns
+pub mod Verdicts
+pub mod Loops
+pub mod Accepts
+pub mod Filters
+pub mod Found
+pub mod Fewer
+pub mod Lists
+pub mod Listed
+pub mod Types
+pub mod Printed
+pub mod Rules
+pub mod LookUps
+pub mod Built
+pub mod Counted
+pub mod Asked

@@ -1,0 +1,9 @@
+pub mod InMemory
+pub mod Actions
+pub mod Tokens
+pub mod Names
+pub mod Costs
+pub mod Parameters
+pub mod Production
+pub mod Whole
+pub mod Emission
