@@ -51,15 +51,15 @@ abbrev pub kept : Bool → ℕ → Option Val
 kept true text = Some (Plain (Written text))
 kept false text = None
 
-kept_is : (b : Bool) (text : ℕ) → kept_val b text ≡ option_val (kept b text)
+pub kept_is : (b : Bool) (text : ℕ) → kept_val b text ≡ option_val (kept b text)
 kept_is true text = refl
 kept_is false text = refl
 
 -- texts that are named after others
-abbrev Names : Program → List (Option Val) → List Text → Type 0
+abbrev pub Names : Program → List (Option Val) → List Text → Type 0
 Names p os names = (before : List Text) → texts_among p before (held os) ≡ Some (before ++ names)
 
-names_more : (p : Program) (b : Bool) (text : ℕ) (name : Text) (os : List (Option Val)) (names : List Text) → slice_get p.texts text ≡ Some name → Names p os names → Names p (kept b text ∷ os) (with_kept b name names)
+pub names_more : (p : Program) (b : Bool) (text : ℕ) (name : Text) (os : List (Option Val)) (names : List Text) → slice_get p.texts text ≡ Some name → Names p os names → Names p (kept b text ∷ os) (with_kept b name names)
 names_more p true text name os names is rest before =
     ap (λ (o : Option Text). option_and_then (λ (x : Text). texts_among p (before ++ x ∷ []) (held os)) o) is ∙ rest (before ++ name ∷ []) ∙ ap Some (append_assoc before (name ∷ []) names)
 names_more p false text name os names is rest before = rest before

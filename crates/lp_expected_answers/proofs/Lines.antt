@@ -80,13 +80,13 @@ abbrev pub less : ℕ → ℤ
 less zero = pos zero
 less (suc n) = negsuc n
 
-one_more : (n : ℕ) → negsuc n +ℤ pos 1 ≡ less n
+pub one_more : (n : ℕ) → negsuc n +ℤ pos 1 ≡ less n
 one_more zero = refl
 one_more (suc n) =
     let down : suc (suc n) - 2 ≡ n = omega arith in
     ap (λ (b : Bool). cond b (negsuc (suc (suc n) - 2)) (pos (1 - suc (suc n)))) (lt-ltb 1 (suc (suc n)) (omega arith)) ∙ ap negsuc down
 
-turned : (n : ℕ) → neg_ℤ (less n) ≡ pos n
+pub turned : (n : ℕ) → neg_ℤ (less n) ≡ pos n
 turned zero = refl
 turned (suc n) = refl
 

@@ -19,7 +19,7 @@ use Rattle.lp_ends.proofs.Values as values
 use Rattle.lp_expected_answers.proofs.Lines.{Written, GivesAtOnce, look_lines, reduce_lines, answer_lines, turn, trial_at, less, reduction, count_line, last_ends, action_line, answered, passed, accepts_line, reduces_line, less_line, cut_line, goto_line}
 
 -- the entry of a shift is positive
-is_positive : (n : ℕ) → int_lt (pos 0) (pos (suc n)) ≡ true
+pub is_positive : (n : ℕ) → int_lt (pos 0) (pos (suc n)) ≡ true
 is_positive n = grind (arith, nat_tests)
 
 module _ (kind : StateType) (own : List ℤ) (i : ℕ) (so_far : List UserCall) where

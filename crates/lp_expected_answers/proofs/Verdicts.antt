@@ -46,19 +46,19 @@ pub record HasLookUps (p : Program) (kind : StateType) (states : List Lr1State) 
 
 -- ---- states as numbers
 -- the last of a list is there
-last_some : {A : Type 0} (xs : List A) (x : A) → last_of xs ≡ Some x → 1 ≤ length xs
+pub last_some : {A : Type 0} (xs : List A) (x : A) → last_of xs ≡ Some x → 1 ≤ length xs
 last_some xs x is = let within : length xs - 1 < length xs = slice_get_within xs (length xs - 1) x is in omega arith
 
-last_mapped : (xs : List ℕ) (k x : ℕ) → slice_get xs k ≡ Some x → slice_get (map pos xs) k ≡ Some (pos x)
+pub last_mapped : (xs : List ℕ) (k x : ℕ) → slice_get xs k ≡ Some x → slice_get (map pos xs) k ≡ Some (pos x)
 last_mapped xs k x is = slice_get-map pos xs k ∙ ap (option_map pos) is
 
 -- the stack that a reduction leaves
-record Left (stack : List ℕ) (n under : ℕ) : Type 0 where
-  few : n ≤ length (map pos stack)
-  some : 1 ≤ length (map pos stack) - n
-  at : slice_get (take (length (map pos stack) - n) (map pos stack)) (length (map pos stack) - n - 1) ≡ Some (pos under)
+pub record Left (stack : List ℕ) (n under : ℕ) : Type 0 where
+  pub few : n ≤ length (map pos stack)
+  pub some : 1 ≤ length (map pos stack) - n
+  pub at : slice_get (take (length (map pos stack) - n) (map pos stack)) (length (map pos stack) - n - 1) ≡ Some (pos under)
 
-left_stack : (stack : List ℕ) (n under : ℕ) → last_of (below n stack) ≡ Some under → Left stack n under
+pub left_stack : (stack : List ℕ) (n under : ℕ) → last_of (below n stack) ≡ Some under → Left stack n under
 left_stack stack n under top =
     let many : length (map pos stack) ≡ length stack = length-map stack pos in
     let kept : length (below n stack) ≡ length stack - n = length-take-le (length stack - n) stack (omega arith) in
@@ -71,20 +71,20 @@ left_stack stack n under top =
           ∙ last_mapped (below n stack) (length stack - n - 1) under (ap (λ (k : ℕ). slice_get (below n stack) (k - 1)) (sym kept) ∙ top);
     }
 
-pushed_stack : (stack : List ℕ) (n to : ℕ) → take (length (map pos stack) - n) (map pos stack) ++ pos to ∷ [] ≡ map pos (below n stack ++ to ∷ [])
+pub pushed_stack : (stack : List ℕ) (n to : ℕ) → take (length (map pos stack) - n) (map pos stack) ++ pos to ∷ [] ≡ map pos (below n stack ++ to ∷ [])
 pushed_stack stack n to =
     ap (λ (k : ℕ). take (k - n) (map pos stack) ++ pos to ∷ []) (length-map stack pos)
     ∙ ap (λ (l : List ℤ). l ++ pos to ∷ []) (take-map pos (length stack - n) stack)
     ∙ sym (map-append pos (below n stack) (to ∷ []))
 
 -- what a trial that reduces comes to
-abbrev Leads : List Lr1State → Verdict → Type 0
+abbrev pub Leads : List Lr1State → Verdict → Type 0
 Leads states v = (v ≡ Yes) ⊎ ((next : List ℕ) × (v ≡ GoesOn next) × IsOnPath states next)
 
-never_no : (states : List Lr1State) → Leads states No → ⊥
+pub never_no : (states : List Lr1State) → Leads states No → ⊥
 never_no states h = ⊎_elim (λ (e : No ≡ Yes). (let bad : No ≡ Yes = e in cc)) (λ (w : (next : List ℕ) × (No ≡ GoesOn next) × IsOnPath states next). (let bad : No ≡ GoesOn w.0 = w.1 in cc)) h
 
-path_after : (states : List Lr1State) (stack : List ℕ) → Leads states (GoesOn stack) → IsOnPath states stack
+pub path_after : (states : List Lr1State) (stack : List ℕ) → Leads states (GoesOn stack) → IsOnPath states stack
 path_after states stack h =
     ⊎_elim (λ (e : GoesOn stack ≡ Yes). absurd (let bad : GoesOn stack ≡ Yes = e in cc))
     (λ (w : (next : List ℕ) × (GoesOn stack ≡ GoesOn next) × IsOnPath states next). (let same : w.0 ≡ stack = (let e : GoesOn stack ≡ GoesOn w.0 = w.1 in cc) in subst (IsOnPath states) same w.2)) h
