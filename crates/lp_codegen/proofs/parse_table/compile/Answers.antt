@@ -20,6 +20,6 @@ returns g c =
       c.in_ok-node.node,
       parts ∙ c.in_ok-bare.ensures,
       c.in_ok-node.ensures.notes ∙ ap (notes_of_module c.options.result.comments c.args.grammar.now c.args.states.now) (sym parts)
-      ∙ ap (λ (o : Options). notes_of_module o.comments c.args.grammar.now c.args.states.now (items c.in_ok-node.node)) c.options.ensures,
+          ∙ ap (λ (o : Options). notes_of_module o.comments c.args.grammar.now c.args.states.now (items c.in_ok-node.node)) c.options.ensures,
       rw c.as_str.ensures at c.print_node.ensures,
     )
