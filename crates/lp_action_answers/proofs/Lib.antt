@@ -8,6 +8,8 @@ pub mod Users
 pub mod Shown
 pub mod Lookarounds
 pub mod Linked
+pub mod AscentGrows
+pub mod Makings
 pub mod LinkedModule
 pub mod InlineRows
 pub mod InlinePlaces

@@ -90,12 +90,16 @@ not_begun prefix (c ∷ cs) h = by (begins prefix (c ∷ cs)) (holds_prefix pref
     by true b e = cc
     by false b e = refl
 
+-- the bytes of a parameter's name are those of words
+pub name_words : (name : List ℕ) → IsUtf8 name → is_parameter_name name ≡ true → list_all is_word name ≡ true
+name_words name utf8 h = identifier_words name utf8 (identifier_text name (and_parts (is_identifier name) (not (is_reserved name)) h).0)
+
 -- a parameter's name without the prefix
 pub plain_name : (prefix name : List ℕ) → IsUtf8 name → is_parameter_name name ≡ true → lacks prefix name ≡ true → IsPlainName prefix name
 plain_name prefix name utf8 h apart =
     let p = and_parts (is_identifier name) (not (is_reserved name)) h in
     let q = and_parts (not (same_text name (codes "_"))) (is_name_word (chars name)) p.0 in
-    let w = identifier_words name utf8 (identifier_text name p.0) in
+    let w = name_words name utf8 h in
     record {
       wordy = record { no_and = words_lack 38 name refl w; no_open = words_lack 40 name refl w; no_colon = words_lack 58 name refl w };
       no_mark = words_lack 126 name refl w;
@@ -129,6 +133,9 @@ module _ (g : Grammar) (valid : IsValidGrammar g) (utf8 : (i : ℕ) (p : Paramet
   all_plain front (p ∷ ps) h =
       let is : slice_get g.parameters (length front) ≡ Some p = ap (λ l. slice_get l (length front)) (sym h) ∙ get_behind front p ps in
       (plain_name g.prefix p.name (utf8 (length front) p is) (named (length front) p is) (apart (length front) p is), all_plain (front ++ p ∷ []) ps (append_assoc front (p ∷ []) ps ∙ h))
+
+  pub names_are_words : (i : ℕ) (p : Parameter) → slice_get g.parameters i ≡ Some p → list_all is_word p.name ≡ true
+  names_are_words i p is = name_words p.name (utf8 i p is) (named i p is)
 
   pub names_are_plain : ArePlain g.prefix g.parameters
   names_are_plain = all_plain [] g.parameters refl

@@ -35,7 +35,7 @@ split_right texts fs gs b h j f at =
     let same : (b + length fs) + j ≡ b + (length fs + j) = omega arith in
     ap (slice_get texts) same ∙ h (length fs + j) f (at_right fs gs (length fs + j) j f refl at)
 
-forms_both : (ss ts : List Sought) → forms_sought (ss ++ ts) ≡ forms_sought ss ++ forms_sought ts
+pub forms_both : (ss ts : List Sought) → forms_sought (ss ++ ts) ≡ forms_sought ss ++ forms_sought ts
 forms_both ss ts = flat_map-append form_sought ss ts
 
 -- ---- what a reduction makes beside its lines: no texts
@@ -195,7 +195,7 @@ module _ (p : Program) where
         prefix = keeps.prefix ∙ r.prefix;
       }
 
-  arm_read : (shared : Shared) (line : Form) (a : Arming) → IsArmLine line → Written (reading_of a.arms a.made) (line_soughts a.made.prefix line) → ArmRead a (arm_of shared line a) (line_soughts a.made.prefix line)
+  pub arm_read : (shared : Shared) (line : Form) (a : Arming) → IsArmLine line → Written (reading_of a.arms a.made) (line_soughts a.made.prefix line) → ArmRead a (arm_of shared line a) (line_soughts a.made.prefix line)
   arm_read shared line a h = by (is_shift line) (is_reduce line) h.1
     where
       by : (b c : Bool) → (b || c) ≡ true → Written (reading_of a.arms a.made) (if b then Some (form_of a.made.prefix (hole_of 0 line)) ∷ [] else reduce_soughts a.made.prefix line)

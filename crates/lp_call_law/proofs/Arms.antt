@@ -24,7 +24,7 @@ use Rattle.lp_machine.specs.Lookup.{act_at, same_token, terminal_in}
 use Rattle.lp_machine.specs.declared.lookup.KnownTerminal.{KnownTerminal}
 use Rattle.lp_machine.specs.Tables.{Tables}
 use Rattle.lp_machine.specs.declared.lookup.Act.{Act}
-use Rattle.lp_machine.specs.declared.lookup.Act.TheVariants.{ReduceBy, NoAction}
+use Rattle.lp_machine.specs.declared.lookup.Act.TheVariants.{Shift, ReduceBy, NoAction}
 use Rattle.lp_paths.specs.Over.{IsOver}
 use Rattle.lp_paths.specs.Walks.{edge_from, edge_at}
 use Rattle.lp_paths.proofs.MachineRules.{any_place}
@@ -291,3 +291,25 @@ module _ {g : Grammar} {start : ℕ} {states : List Lr1State} {t : Tables} (over
 -- on a token of none no arm is taken
 pub no_arm_unknown : (terminals : List KnownTerminal) (x : values.Token) (arms : List Arm) → terminal_in terminals x ≡ None → taken (is_seen terminals (Some x)) arms ≡ NoAction
 no_arm_unknown terminals x arms e = none_taken (is_seen terminals (Some x)) arms (seen_unknown terminals x e)
+
+same_shift : (a b : ℕ × ℕ) → shift_arm a ≡ shift_arm b → (a.0 ≡ b.0) × (a.1 ≡ b.1)
+same_shift a b e =
+    let tokens : Terminal a.0 ∷ [] ≡ Terminal b.0 ∷ [] = ap (λ (x : Arm). x.0) e in
+    let acts : Shift a.1 ≡ Shift b.1 = ap (λ (x : Arm). x.1) e in
+    (cc, cc)
+
+shift_or_reduce : (a : ℕ × ℕ) (r : List Token × ℕ) → shift_arm a ≡ (r.0, ReduceBy r.1) → ⊥
+shift_or_reduce a r e = (let acts : Shift a.1 ≡ ReduceBy r.1 = ap (λ (x : Arm). x.1) e in cc)
+
+-- an arm that shifts is of an edge
+module _ {g : Grammar} {start : ℕ} {states : List Lr1State} {t : Tables} (over : IsOver g start states t) where
+  pub arm_edge : (q i : ℕ) (s : Lr1State) (shift : ℕ × ℕ) → slice_get states q ≡ Some s → slice_get (arms_of g s) i ≡ Some (shift_arm shift) → edge_at states q (symbol.Terminal shift.0) ≡ Some shift.1
+  arm_edge q i s shift at e = ⊎_elim
+      (λ (w : (k : ℕ) × (slice_get (map shift_arm (s.shifts).entries) k ≡ Some (shift_arm shift))).
+      let x = at_mapped shift_arm (s.shifts).entries w.0 (shift_arm shift) w.1 in
+      let same = same_shift shift x.0 x.2 in
+      ap (λ n. edge_at states q (symbol.Terminal n)) same.0 ∙ shift_edge over q w.0 x.0.0 x.0.1 s at x.1 ∙ ap Some (sym same.1))
+      (λ (w : (k : ℕ) × (slice_get (arms_by s.reductions 0 (productions_of g)) k ≡ Some (shift_arm shift))).
+      let r = reduction_source s.reductions 0 (productions_of g) w.0 (shift_arm shift) w.1 in
+      absurd (shift_or_reduce shift r.1 r.3))
+      (append_cases (map shift_arm (s.shifts).entries) (arms_by s.reductions 0 (productions_of g)) i (shift_arm shift) e)

@@ -89,7 +89,7 @@ by_place : (P : ℕ → ℕ → Type 0) (j : ℕ) (js : List ℕ) → P 0 j → 
 by_place P j js first rest zero x at = let same : j ≡ x = cc in subst (P 0) same first
 by_place P j js first rest (suc i) x at = rest i x at
 
-none_of : (js : List ℕ) (k : ℕ) → k < 2 ^ 64 → ((i j : ℕ) → slice_get js i ≡ Some j → (j < 2 ^ 64) × (k ≡ j → ⊥)) → IsNone js (sym_name k)
+pub none_of : (js : List ℕ) (k : ℕ) → k < 2 ^ 64 → ((i j : ℕ) → slice_get js i ≡ Some j → (j < 2 ^ 64) × (k ≡ j → ⊥)) → IsNone js (sym_name k)
 none_of [] k small h = tt
 none_of (j ∷ js) k small h = (sym_apart j k (h 0 j refl).0 small (λ e. (h 0 j refl).1 (sym e)), none_of js k small (λ i x at. h (suc i) x at))
 

@@ -86,6 +86,7 @@ module _ {g : Grammar} {start : ℕ} {states : List Lr1State} {t : Tables} (over
     triples = r.triples ∙ ap (λ n. below n from.triples) more ∙ ap (below (e + 1)) pushed.triples ∙ below_push c.triples y e;
     states_below = r.states_below ∙ ap (λ n. below n from.states) more ∙ ap (below (e + 1)) pushed.states ∙ below_push c.states p e;
     look = r.look;
+    look_taken = r.look_taken;
     kept = r.kept;
     answers = r.answers;
   }

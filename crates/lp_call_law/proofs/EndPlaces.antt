@@ -48,7 +48,7 @@ abbrev shape : Layout → Bool → ℕ → ℕ → Form
 shape l none top count =
     if none then leaf part.LocationDefault [] else (if is_cell l top then over part.LocationChain [] (text_rows part.LocationRow (map decimal (downwards count))) else leaf part.LocationFixed (decimal top ∷ []))
 
-located_by : (l : Layout) (o : Option Form) → o ≡ Some (error_location l) → (k : ℕ) → count_of l ≡ suc k → (b : Bool) → is_cell l k ≡ b
+pub located_by : (l : Layout) (o : Option Form) → o ≡ Some (error_location l) → (k : ℕ) → count_of l ≡ suc k → (b : Bool) → is_cell l k ≡ b
     → o ≡ Some (if b then over part.LocationChain [] (text_rows part.LocationRow (map decimal (downwards (suc k)))) else leaf part.LocationFixed (decimal k ∷ []))
 located_by l o first k count b is =
     let some : (suc k == 0) ≡ false = grind (arith, nat_tests) in

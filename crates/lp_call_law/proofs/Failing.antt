@@ -19,7 +19,7 @@ use Rattle.lp_call_law.proofs.Moves.{ends_later}
 
 -- ---- steps, where a move costs at most so many
 -- of some moves and of further ones
-both_cost : (most x y z a b : ℕ) → x ≤ y + most * a → y ≤ z + most * b → x ≤ z + most * (a + b)
+pub both_cost : (most x y z a b : ℕ) → x ≤ y + most * a → y ≤ z + most * b → x ≤ z + most * (a + b)
 both_cost most x y z a b h g = subst (λ n. x ≤ z + n) (sym (mul-add most a b)) (sum (most * a) (most * b) h g)
   where
     sum : (p q : ℕ) → x ≤ y + p → y ≤ z + q → x ≤ z + (p + q)
@@ -37,10 +37,10 @@ same_place m k = omega arith
 
 -- ---- later moves
 module _ {t : Tables} {items : List RunItem} {c from : Config} (m : ℕ) (lead : Leads t items c from m) where
-  later : (k : ℕ) → moves t items k from ≡ moves t items (m + k) c
+  pub later : (k : ℕ) → moves t items k from ≡ moves t items (m + k) c
   later k = ap (moves t items k) (sym lead.comes) ∙ sym (moves_after t items m k c)
 
-  prefix_later : (k : ℕ) (calls : List UserCall) → IsPrefix calls (as_users (moves t items k from).calls) → IsPrefix calls (as_users (moves t items (m + k) c).calls)
+  pub prefix_later : (k : ℕ) (calls : List UserCall) → IsPrefix calls (as_users (moves t items k from).calls) → IsPrefix calls (as_users (moves t items (m + k) c).calls)
   prefix_later k calls first = subst (λ x. IsPrefix calls (as_users x.calls)) (later k) first
 
 module _ {g : Grammar} {states : List Lr1State} {t : Tables} {items : List RunItem} {variant : ℕ → ℕ} {most : ℕ} {c from : Config} (m : ℕ) (lead : Leads t items c from m) (st inside : State) where

@@ -92,7 +92,7 @@ module _ {g : Grammar} {start : ℕ} {states : List Lr1State} {t : Tables} (over
 
 -- ---- the arms of gotos
 -- an entry's key is found
-key_found : {X : Type 0} (es : List (ℕ × X)) (i n : ℕ) (x : X) → slice_get es i ≡ Some (n, x) → (y : X) × (lookup (eq_by_cmp nat_cmp n) es ≡ Some y)
+pub key_found : {X : Type 0} (es : List (ℕ × X)) (i n : ℕ) (x : X) → slice_get es i ≡ Some (n, x) → (y : X) × (lookup (eq_by_cmp nat_cmp n) es ≡ Some y)
 key_found [] i n x e = absurd (none-some _ e)
 key_found {X} (z ∷ es) zero n x e =
     (z.1, ap (λ (b : Bool). cond b (Some z.1) (lookup (eq_by_cmp nat_cmp n) es)) (ap (λ (w : ℕ × X). eq_by_cmp nat_cmp n w.0) (same_Some z (n, x) e) ∙ key_refl n))

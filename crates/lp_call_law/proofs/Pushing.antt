@@ -127,7 +127,7 @@ module _ (t : Tables) (items : List RunItem) (never : t.error ≡ None) where
         (ready_again going ∙ ap (ready_from t items gone) hand)
 
     pub goto_hands : (k : Layout) → has_lookahead k ≡ true → Handed t items k gone (look_val r.look ∷ [])
-    goto_hands k by_name = sees r.look by_name (goto_sees r.look r.kept)
+    goto_hands k by_name = sees r.look by_name r.look_taken (goto_sees r.look r.kept)
 
 -- ---- before the call
 module _ {g : Grammar} {start : ℕ} {states : List Lr1State} {t : Tables} (over : IsOver g start states t) (items : List RunItem) (given : List Val) where

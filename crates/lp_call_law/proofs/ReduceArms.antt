@@ -184,7 +184,8 @@ abbrev pub called_lines : Making → Shared → AscentSpan → Form → List ℕ
 called_lines made shared place call js names = ascent_call_line (span_made made place) call (span_lines made shared place (take_lines js (lines_of names [])))
 
 module _ (shared : Shared) (made : Making) (names : Names) (form : Form) (js : List ℕ) (place : AscentSpan) (fallible : Bool) (action : ℕ) (generics args : List ℕ) (returning : Bool) (parts : parts_of form ≡ map take_form js ++ (ascent_span place ∷ call_form fallible action generics args ∷ return_forms returning)) where
-  lines_are : ascent_lines shared made names form ≡ work_of (called_lines made shared place (call_form fallible action generics args) js names) (span_made made place)
+  -- its lines
+  pub lines_are : ascent_lines shared made names form ≡ work_of (called_lines made shared place (call_form fallible action generics args) js names) (span_made made place)
   lines_are =
       let rest = call_form fallible action generics args ∷ return_forms returning in
       let taken = take_lines js (lines_of names []) in

@@ -16,7 +16,7 @@ use Rattle.lp_machine.specs.Tables.{Tables}
 use Rattle.lp_names.proofs.Slots.{get_within}
 use Rattle.lp_paths.specs.Walks.{Has}
 use Rattle.lp_paths.proofs.Stacks.{path_length}
-use Rattle.lp_call_law.specs.Standing.{EndsThere, Kept, OnTop, Reduced, place_of, answer_val}
+use Rattle.lp_call_law.specs.Standing.{IsTaken, EndsThere, Kept, OnTop, Reduced, place_of, answer_val}
 use Rattle.lp_call_law.proofs.Lookups.{get_dropped}
 use Rattle.lp_call_law.proofs.Moves.{sets_left, once, valued_sets}
 
@@ -55,9 +55,9 @@ module _ (t : Tables) (items : List RunItem) where
 module _ (states : List Lr1State) (t : Tables) (items : List RunItem) (variant : ℕ → ℕ) where
   -- after the calls of its action a reduction of the state's own item is at its end: all its symbols are the frame's
   pub reduces_here : (s : ℕ) (c : Config) (p : ℕ) (rule : Rule) (calls : List Call) (value : Value) (look : Option (Spanned Token)) → OnTop states s c → c.mending ≡ None
-      → t.rule p ≡ Some rule → Has states s p rule.length → rule.length ≤ length c.triples → Kept t items c (place_of c rule).1 look
+      → t.rule p ≡ Some rule → Has states s p rule.length → rule.length ≤ length c.triples → IsTaken items look → Kept t items c (place_of c rule).1 look
       → Reduced states t items variant s c rule.length (answer_val (variant rule.nonterminal) (place_of c rule) value look) (valued t items (record c { calls = calls }) rule value)
-  reduces_here s c p rule calls value look top whole known item fits kept =
+  reduces_here s c p rule calls value look top whole known item fits taken kept =
       let same = sets_left (λ d. valued t items d rule value) (valued_sets t items rule value) (record c { calls = calls }) in
       let height : length c.states ≡ length c.triples + 1 = path_length states c.states top.stands.symbols top.stands.path ∙ ap (λ n. n + 1) (sym top.stands.same_count) in
       record {
@@ -73,6 +73,7 @@ module _ (states : List Lr1State) (t : Tables) (items : List RunItem) (variant :
         triples = ap (λ d. below rule.length d.triples) same;
         states_below = ap (λ d. below rule.length d.states) same;
         look = look;
+        look_taken = taken;
         kept = kept_here t items c rule calls value look kept;
         answers = ap (λ at. answer_val (variant rule.nonterminal) at value look) (ap (λ d. place_of d rule) (sym same));
       }

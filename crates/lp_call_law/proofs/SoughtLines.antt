@@ -59,11 +59,11 @@ rows_flat : (ps : List (List ℕ)) → text_rows part.TokenRow ps ≡ flat (map 
 rows_flat [] = refl
 rows_flat (p ∷ ps) = ap (λ is. row part.TokenRow (p ∷ []) ∷ is) (rows_flat ps)
 
-rows_whole : (ps : List (List ℕ)) → AreWhole (map row_form ps)
+pub rows_whole : (ps : List (List ℕ)) → AreWhole (map row_form ps)
 rows_whole [] = tt
 rows_whole (p ∷ ps) = (refl, rows_whole ps)
 
-last_whole : (last : Option (List ℕ)) → IsWhole (last_form last)
+pub last_whole : (last : Option (List ℕ)) → IsWhole (last_form last)
 last_whole None = refl
 last_whole (Some p) = refl
 
@@ -83,10 +83,11 @@ module _ (prefix : List ℕ) where
     below_soughts : soughts_in (below ∷ []) ≡ []
     below_soughts = flat_map-cons (row_soughts prefix) below [] ∙ ap (λ ss. ss ++ soughts_in []) quiet
 
-    abbrev more_forms : List (List ℕ) → Option (List ℕ) → List Form
+    abbrev pub more_forms : List (List ℕ) → Option (List ℕ) → List Form
     more_forms ps last = map row_form ps ++ (last_form last ∷ below ∷ [])
 
-    more_flat : (ps : List (List ℕ)) (last : Option (List ℕ)) → (text_rows part.TokenRow ps ++ last_token last) ++ below ≡ flat (more_forms ps last)
+    -- the forms behind the first token
+    pub more_flat : (ps : List (List ℕ)) (last : Option (List ℕ)) → (text_rows part.TokenRow ps ++ last_token last) ++ below ≡ flat (more_forms ps last)
     more_flat ps last =
         append_assoc (text_rows part.TokenRow ps) (last_token last) below
         ∙ ap (λ is. is ++ (last_token last ++ below)) (rows_flat ps)

@@ -21,19 +21,17 @@ use Rattle.lp_machine.specs.declared.lookup.KnownTerminal.{KnownTerminal}
 use Rattle.lp_maker.specs.Patterns.{form_of}
 use Rattle.lp_parts.specs.Entries.{is_eof, is_terminal}
 use Rattle.lp_ascent.specs.ReduceLines.{pattern_if, token_pattern, terminal_patterns, patterns_from, token_patterns, ends}
-use Rattle.lp_ascent.specs.ShiftLines.{shifted_pattern}
 use Rattle.lp_call_law.specs.Arms.{is_seen, has_form}
 use Rattle.lp_call_law.specs.Cases.{is_sought}
 use Rattle.lp_call_law.proofs.SoughtLines.{pattern_sought, end_sought}
 
--- the printed patterns of a terminal are read as its form
+-- the printed pattern of a terminal is read as its form
 pub record IsReadAs (g : Grammar) (terminals : List KnownTerminal) (n : ℕ) (t : TerminalString) : Type 0 where
   pub pattern : TokenPattern
   pub there : get terminal_cmp g.conversions t ≡ Some pattern
   pub known : KnownTerminal
   pub at : slice_get terminals n ≡ Some known
   pub listed : form_of g.prefix (pattern_text pattern) ≡ known.form
-  pub shifted : form_of g.prefix (shifted_pattern g.prefix pattern) ≡ known.form
 
 -- those of all terminals, from a number on
 abbrev pub AreReadAs : Grammar → List KnownTerminal → ℕ → List TerminalString → Type 0

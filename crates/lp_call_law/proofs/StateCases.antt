@@ -30,10 +30,11 @@ use Rattle.lp_ascent.specs.CallLines.{call_of}
 use Rattle.lp_ascent.specs.ReduceLines.{arm_on, ends, first_popped, is_reduced, reduction_arm, reduction_line, reduction_lines, reduction_of, reductions_from, token_patterns}
 use Rattle.lp_ascent.specs.ReduceLines as printed
 use Rattle.lp_ascent.specs.ShiftLines as printed_shifts
-use Rattle.lp_ascent.specs.ShiftLines.{pattern_at, pattern_for, shift_if, shift_line, shift_lines}
+use Rattle.lp_ascent.specs.ShiftLines.{pattern_at, pattern_for, shift_if, shift_line, shift_lines, shifted_pattern}
 use Rattle.lp_ascent.specs.Slots.{Layout, count_of}
 use Rattle.lp_repr.specs.declared.numbering.SymbolNumber.TheVariants as symbol
 use Rattle.lp_call_law.specs.Arms.{Arm, shift_arm, arm_by, arms_by, arms_of, fits, has_form, is_seen}
+use Rattle.lp_call_law.specs.Shifted.{AreShiftsRead, IsShiftRead}
 use Rattle.lp_call_law.specs.Cases.{Sought, is_sought, AreSoughtBy, IsArmLine, line_soughts}
 use Rattle.lp_call_law.proofs.Arms.{shift_edge}
 use Rattle.lp_call_law.proofs.SoughtLines.{shift_soughts, shift_is_arm, pattern_sought, end_sought, by_soughts, arm_is_arm, below_whole, below_quiet}
@@ -122,18 +123,18 @@ module _ (g : Grammar) (ls : List Layout) (l : Layout) (terminals : List KnownTe
   form_sought_so None n k at = refl
   form_sought_so (Some x) n k at = ap (λ o. has_form o x || false) (sym at)
 
-  shift_form : (shift : ℕ × ℕ) → shift.0 < length (terminals_of g) → ArmLines (shift_line g ls l shift) (shift_arm shift ∷ [])
-  shift_form shift less =
-      let w = at_within (terminals_of g) shift.0 less in
+  shift_form : (shift : ℕ × ℕ) → IsShiftRead g shift → ArmLines (shift_line g ls l shift) (shift_arm shift ∷ [])
+  shift_form shift known =
+      let w = at_within (terminals_of g) shift.0 known.0 in
       let zero_n : 0 + shift.0 ≡ shift.0 = omega arith in
       let r : IsReadAs g terminals shift.0 w.0 = subst (λ k. IsReadAs g terminals k w.0) zero_n (read_at g terminals 0 shift.0 (terminals_of g) w.0 read w.1) in
       let is : pattern_at g shift.0 ≡ Some r.pattern = ap (pattern_for g) w.1 ∙ r.there in
       let below = call_of g ls l shift.1 false in
       subst (λ (o : Option TokenPattern). ArmLines (shift_if g ls l shift.1 o) (shift_arm shift ∷ [])) (sym is)
       (one_line (shift_if g ls l shift.1 (Some r.pattern)) (shift_arm shift) refl (shift_is_arm g.prefix (count_of l) below r.pattern) (of_shift shift r.pattern is)
-      (λ look. ap (list_any (is_sought look)) (shift_soughts g.prefix (count_of l) below r.pattern ∙ ap (λ form. Some form ∷ []) r.shifted) ∙ form_sought_so look shift.0 r.known r.at))
+      (λ look. ap (list_any (is_sought look)) (shift_soughts g.prefix (count_of l) below r.pattern ∙ ap (λ form. Some form ∷ []) (known.1 r.pattern is ∙ r.listed)) ∙ form_sought_so look shift.0 r.known r.at))
 
-  shift_forms : (shifts : List (ℕ × ℕ)) → AllByRecursion (λ (s : ℕ × ℕ). s.0 < length (terminals_of g)) shifts → ArmLines (flat_map (shift_line g ls l) shifts) (map shift_arm shifts)
+  shift_forms : (shifts : List (ℕ × ℕ)) → AllByRecursion (IsShiftRead g) shifts → ArmLines (flat_map (shift_line g ls l) shifts) (map shift_arm shifts)
   shift_forms [] h = no_lines
   shift_forms (s ∷ shifts) h =
       subst (λ (is : List Item). ArmLines is (map shift_arm (s ∷ shifts))) (sym (flat_map-cons (shift_line g ls l) s shifts))
@@ -194,26 +195,26 @@ module _ (g : Grammar) (ls : List Layout) (l : Layout) (terminals : List KnownTe
       (reductions_by_all rs (n + 1) ps (λ k q at. (let next : (n + 1) + k ≡ n + suc k = omega arith in ap (slice_get (productions_of g)) next ∙ known (suc k) q at)) h)
 
   -- ---- the arms of a state
-  pub state_lines : (s : Lr1State) → AllByRecursion (λ (x : ℕ × ℕ). x.0 < length (terminals_of g)) s.shifts.entries → AllByRecursion InRange s.reductions → ArmLines (shift_lines g ls l s.shifts.entries ++ reduction_lines g l s.reductions) (arms_of g s)
+  pub state_lines : (s : Lr1State) → AllByRecursion (IsShiftRead g) s.shifts.entries → AllByRecursion InRange s.reductions → ArmLines (shift_lines g ls l s.shifts.entries ++ reduction_lines g l s.reductions) (arms_of g s)
   unfolding shift_lines reduction_lines
   state_lines s a b =
       both_lines (flat_map (shift_line g ls l) s.shifts.entries) (reductions_from g l s.reductions 0 (productions_of g)) (map shift_arm s.shifts.entries) (arms_by s.reductions 0 (productions_of g)) (shift_forms s.shifts.entries a) (reductions_by_all s.reductions 0 (productions_of g) (λ k p at. (let none : 0 + k ≡ k = omega arith in ap (slice_get (productions_of g)) none ∙ at)) b)
 
 -- those of a state of valid tables
 module _ {g : Grammar} {start : ℕ} {states : List Lr1State} {t : Tables} (over : IsOver g start states t) (q : ℕ) (s : Lr1State) (at : slice_get states q ≡ Some s) where
-  shifts_in : (es : List (ℕ × ℕ)) (k : ℕ) → ((i : ℕ) (e : ℕ × ℕ) → slice_get es i ≡ Some e → slice_get s.shifts.entries (k + i) ≡ Some e) → AllByRecursion (λ (x : ℕ × ℕ). x.0 < length (terminals_of g)) es
-  shifts_in [] k h = tt
-  shifts_in (e ∷ es) k h =
+  pub shifts_in : AreShiftsRead g states → (es : List (ℕ × ℕ)) (k : ℕ) → ((i : ℕ) (e : ℕ × ℕ) → slice_get es i ≡ Some e → slice_get s.shifts.entries (k + i) ≡ Some e) → AllByRecursion (IsShiftRead g) es
+  shifts_in forms [] k h = tt
+  shifts_in forms (e ∷ es) k h =
       let edge = shift_edge over q (k + 0) e.0 e.1 s at (h 0 e refl) in
       let found : get nat_cmp s.shifts e.0 ≡ Some e.1 = sym (ap (λ o. edge_from o (symbol.Terminal e.0)) at) ∙ edge in
-      ((((over.tables).each q s at).shifts_in_range e.0 e.1 found).0, shifts_in es (k + 1) (λ i f is. (let next : (k + 1) + i ≡ k + suc i = omega arith in ap (slice_get s.shifts.entries) next ∙ h (suc i) f is)))
+      (((((over.tables).each q s at).shifts_in_range e.0 e.1 found).0, forms e.0 (record { number = q; state = s; there = at; place = k + 0; target = e.1; entry = h 0 e refl })), shifts_in forms es (k + 1) (λ i f is. (let next : (k + 1) + i ≡ k + suc i = omega arith in ap (slice_get s.shifts.entries) next ∙ h (suc i) f is)))
 
   reductions_in : (rs : List (List Token × ℕ)) → AllByRecursion (λ r. (r.1 < length (rules_of g)) × AllByRecursion (IsTokenInRange (length (terminals_of g))) r.0) rs → AllByRecursion (λ r. AllByRecursion (IsTokenInRange (length (terminals_of g))) r.0) rs
   reductions_in [] h = tt
   reductions_in (r ∷ rs) h = (h.0.1, reductions_in rs h.1)
 
-  pub valid_lines : (ls : List Layout) (l : Layout) (terminals : List KnownTerminal) (read : AreReadAs g terminals 0 (terminals_of g)) (long : length terminals ≡ length (terminals_of g)) → ArmLines g ls l terminals read long (shift_lines g ls l s.shifts.entries ++ reduction_lines g l s.reductions) (arms_of g s)
-  valid_lines ls l terminals read long =
+  pub valid_lines : (ls : List Layout) (l : Layout) (terminals : List KnownTerminal) (read : AreReadAs g terminals 0 (terminals_of g)) (long : length terminals ≡ length (terminals_of g)) → AreShiftsRead g states → ArmLines g ls l terminals read long (shift_lines g ls l s.shifts.entries ++ reduction_lines g l s.reductions) (arms_of g s)
+  valid_lines ls l terminals read long forms =
       state_lines g ls l terminals read long s
-      (shifts_in s.shifts.entries 0 (λ i e is. (let none : 0 + i ≡ i = omega arith in ap (slice_get s.shifts.entries) none ∙ is)))
+      (shifts_in forms s.shifts.entries 0 (λ i e is. (let none : 0 + i ≡ i = omega arith in ap (slice_get s.shifts.entries) none ∙ is)))
       (reductions_in s.reductions ((over.tables).each q s at).reductions_in_range)

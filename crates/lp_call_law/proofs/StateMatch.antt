@@ -48,7 +48,7 @@ module _ (p : Program) where
   pub error_armed : (s : Stating) (below : List Item) → state_row s (error_form below) ≡ with_arming s (done_arm s.arms (expected_error s.made s.lines.names (error_form below)))
   error_armed s below = refl
 
-  over_both : (s : Stating) (fs gs : List Form) → over state_row s (fs ++ gs) ≡ over state_row (over state_row s fs) gs
+  pub over_both : (s : Stating) (fs gs : List Form) → over state_row s (fs ++ gs) ≡ over state_row (over state_row s fs) gs
   over_both s [] gs = refl
   over_both s (f ∷ fs) gs = over_both (state_row s f) fs gs
 

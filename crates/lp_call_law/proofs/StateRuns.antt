@@ -36,15 +36,15 @@ count_length : (es : List Tree) → count (trees_of es) ≡ length es
 count_length [] = refl
 count_length (e ∷ es) = ap suc (count_length es)
 
-last_of_bodies : (es : List Tree) (e : Tree) → last_body (count (trees_of (es ++ e ∷ []))) ≡ Some (length es)
+pub last_of_bodies : (es : List Tree) (e : Tree) → last_body (count (trees_of (es ++ e ∷ []))) ≡ Some (length es)
 last_of_bodies es e =
     let many : length (es ++ e ∷ []) ≡ suc (length es) = omega (arith, length-append es (e ∷ [])) in
     ap last_body (count_length (es ++ e ∷ []) ∙ many)
 
 -- of a match over these lines this body runs: that of the line of an arm which does this, or the error's where nothing is done
-pub data BodyRuns (g : Grammar) (ls : List Layout) (l : Layout) (s : Stating) (lines : List Form) (below : List Item) (t : Stating) (act : Act) (body : Option ℕ) : Type 0 where
-  of_line : (i : ℕ) (line : Form) (arm : Arm) → slice_get lines i ≡ Some line → IsLineOf g ls l line arm → arm.1 ≡ act → body ≡ Some i → slice_get t.arms.bodies i ≡ Some (arm_body s.shared line (over (next_arming s.shared) (arms_so_far s) (take i lines))) → BodyRuns g ls l s lines below t act body
-  of_error : (i : ℕ) → act ≡ NoAction → body ≡ Some i → slice_get t.arms.bodies i ≡ Some (error_body s lines below) → BodyRuns g ls l s lines below t act body
+pub data BodyRuns (g : Grammar) (ls : List Layout) (l : Layout) (s : Stating) (lines : List Form) (arms : List Arm) (below : List Item) (t : Stating) (act : Act) (body : Option ℕ) : Type 0 where
+  of_line : (i : ℕ) (line : Form) (arm : Arm) → slice_get lines i ≡ Some line → slice_get arms i ≡ Some arm → IsLineOf g ls l line arm → arm.1 ≡ act → body ≡ Some i → slice_get t.arms.bodies i ≡ Some (arm_body s.shared line (over (next_arming s.shared) (arms_so_far s) (take i lines))) → BodyRuns g ls l s lines arms below t act body
+  of_error : (i : ℕ) → act ≡ NoAction → body ≡ Some i → slice_get t.arms.bodies i ≡ Some (error_body s lines below) → BodyRuns g ls l s lines arms below t act body
 
 module _ {g : Grammar} {start : ℕ} {states : List Lr1State} {t : Tables} (over_tables : IsOver g start states t) (p : Program) (terminals : List KnownTerminal) (read : AreReadAs g terminals 0 (terminals_of g)) (long : length terminals ≡ length (terminals_of g)) (ls : List Layout) (l : Layout) (q : ℕ) (s : Lr1State) (at : slice_get states q ≡ Some s)
     (printed : ArmLines g ls l terminals read long (shift_lines g ls l s.shifts.entries ++ reduction_lines g l s.reductions) (arms_of g s)) (before after : Stating) (below : List Item) (match : IsMatchOf p g.prefix before printed.forms below after) where
@@ -52,13 +52,13 @@ module _ {g : Grammar} {start : ℕ} {states : List Lr1State} {t : Tables} (over
   bodies = count (trees_of after.arms.bodies)
 
   abbrev pub Body : Act → Option (Spanned values.Token) → Type 0
-  Body act look = BodyRuns g ls l before printed.forms below after act (chosen p after.arms.cases (count (trees_of after.arms.bodies)) (look_val look))
+  Body act look = BodyRuns g ls l before printed.forms (arms_of g s) below after act (chosen p after.arms.cases (count (trees_of after.arms.bodies)) (look_val look))
 
   which_body : (act : Act) (look : Option (Spanned values.Token)) → Runs act (arms_of g s) bodies (chosen p after.arms.cases bodies (look_val look)) → Body act look
   which_body act look (an_arm i arm arm_is runs does) =
       let w = line_of_arm g ls l printed.forms (arms_of g s) i arm printed.each arm_is in
       let own = bodies_of before.shared (arms_so_far before) printed.forms in
-      of_line i w.0 arm w.1 w.2 does runs (ap (λ (es : List Tree). slice_get es i) match.bodies ∙ at_left own (error_body before printed.forms below ∷ []) i _ (body_at before.shared (arms_so_far before) printed.forms i w.0 w.1))
+      of_line i w.0 arm w.1 arm_is w.2 does runs (ap (λ (es : List Tree). slice_get es i) match.bodies ∙ at_left own (error_body before printed.forms below ∷ []) i _ (body_at before.shared (arms_so_far before) printed.forms i w.0 w.1))
   which_body act look (the_last runs nothing) =
       let own = bodies_of before.shared (arms_so_far before) printed.forms in
       let error = error_body before printed.forms below in

@@ -9,3 +9,4 @@ pub mod Law
 pub mod Turns
 pub mod Back
 pub mod Stretches
+pub mod Shifted

@@ -6,6 +6,7 @@ use Rattle.lp_repr.specs.declared.repr.Grammar.{Grammar}
 use Rattle.lp_repr.specs.declared.values.Loc.{Loc}
 use Rattle.lp_repr.specs.declared.values.Loc.TheVariants.{Default}
 use Rattle.lp_repr.specs.declared.values.RunItem.{RunItem}
+use Rattle.lp_repr.specs.declared.values.RunItem.TheVariants as item
 use Rattle.lp_driver.specs.DriverState.{last_of}
 use Rattle.lp_driver.specs.RecoveryTurns.{end_or}
 use Rattle.lp_driver.specs.Values.{Token, Spanned, Value}
@@ -63,9 +64,14 @@ pub data Sees (t : Tables) (items : List RunItem) (c : Config) : Option (Spanned
   known : (x : Spanned Token) → Holds t c x → c ≡ asks t items c → Sees t items c (Some x)
   unknown : (x : Spanned Token) → c.lookahead ≡ None → t.terminal x.1 ≡ None → c ≡ errs t items c (Some x) false → Sees t items c (Some x)
 
+-- the lookahead is the end, or a token of the items
+abbrev pub IsTaken : List RunItem → Option (Spanned Token) → Type 0
+IsTaken items None = Unit {0}
+IsTaken items (Some x) = (k : ℕ) × (a b : Loc) × (slice_get items k ≡ Some (item.Token a x.1 b))
+
 -- a function is handed the lookahead, or it is to pull it
 pub data Handed (t : Tables) (items : List RunItem) (l : Layout) (c : Config) : List Val → Type 0 where
-  sees : (look : Option (Spanned Token)) → has_lookahead l ≡ true → Sees t items c look → Handed t items l c (look_val look ∷ [])
+  sees : (look : Option (Spanned Token)) → has_lookahead l ≡ true → IsTaken items look → Sees t items c look → Handed t items l c (look_val look ∷ [])
   pulls : has_lookahead l ≡ false → c.lookahead ≡ None → EndsThere c → c ≡ ready t items c → Handed t items l c []
 
 -- the store and the calls of a run are the machine's: the list of states in a cell, the items taken, and the calls of user code
@@ -120,5 +126,6 @@ pub record Reduced (states : List Lr1State) (t : Tables) (items : List RunItem) 
   pub triples : below rule.length after.triples ≡ below d c.triples
   pub states_below : below rule.length after.states ≡ below d c.states
   pub look : Option (Spanned Token)
+  pub look_taken : IsTaken items look
   pub kept : Kept t items after (place_of after rule).1 look
   pub answers : v ≡ answer_val (variant rule.nonterminal) (place_of after rule) value look

@@ -1,5 +1,5 @@
 -- The loop over gotos of a state's function: where a turn begins, and what the loop answers.
-use Rattle.std.specs.Prelude.{◌≡◌, ◌⊎◌, ℕ, ◌+◌, ◌*◌, ◌≤◌, List, ◌++◌, length, codes, decimal, Err, IsSome, Some, slice_get}
+use Rattle.std.specs.Prelude.{◌≡◌, ◌⊎◌, ℕ, ◌+◌, ◌*◌, ◌≤◌, true, List, ◌++◌, length, codes, decimal, Err, IsSome, Some, slice_get}
 use Rattle.lp_repr.specs.declared.lr1.Lr1State.{Lr1State}
 use Rattle.lp_repr.specs.declared.repr.Grammar.{Grammar}
 use Rattle.lp_repr.specs.declared.values.RunItem.{RunItem}
@@ -23,7 +23,8 @@ use Rattle.lp_core.specs.Val.{Val, Plain}
 use Rattle.lp_maker.specs.Slots.{Names}
 use Rattle.lp_names.specs.Shows.{Shows}
 use Rattle.lp_reductions.specs.Arguments.{ShowAll}
-use Rattle.lp_ascent.specs.Slots.{is_cell}
+use Rattle.lp_ascent.specs.GotoLines.{goes_on}
+use Rattle.lp_ascent.specs.Slots.{is_cell, layouts_of}
 use Rattle.lp_call_law.specs.Slots.{layout}
 use Rattle.lp_call_law.specs.Frames.{AreSlots, AreApart, Emptied}
 use Rattle.lp_call_law.specs.Standing.{as_users, Follows, OnTop, Reduced}
@@ -48,6 +49,8 @@ module _ (g : Grammar) (states : List Lr1State) (t : Tables) (items : List RunIt
   -- before a turn, in the call of the state's function at c: the machine is at the end of a reduction, of the frame's own slots the last d are taken
   pub record Turning (keys : List (List ℕ)) (given : List Val) (loop : Looping) (s : ℕ) (c : Config) (list : ℕ) (own : List Val) (now : Config) (st : State) : Type 0 where
     pub some_goto : (n : ℕ) × IsSome (goto_at states s n)
+    -- the frame goes on, so its function has the loop
+    pub goes : (x : Lr1State) × (slice_get states s ≡ Some x) × (goes_on g (layouts_of g states) x ≡ true)
     pub on_top : OnTop states s c
     pub d : ℕ
     pub inner : Val

@@ -1,5 +1,5 @@
--- What is emitted of a grammar by tables agrees with its tables, where the built modules answer their drivers by these.
-use Rattle.std.proofs.Common.{◌≡◌, ℕ, ◌+◌, ◌*◌, ◌<◌, ◌≤◌, nat_lt, true, false, List, ◌++◌, length, codes, Option, Some, None, IfSome, slice_get, arith, refl, sym, ap, ◌∙◌, subst}
+-- A start agrees with its tables where the runs of its items are told by these; of a module by tables they are, where it answers its driver by the tables.
+use Rattle.std.proofs.Common.{◌≡◌, ℕ, ◌+◌, ◌*◌, ◌<◌, ◌≤◌, nat_lt, true, false, All, List, ◌++◌, length, codes, Option, Some, None, IfSome, slice_get, arith, refl, sym, ap, ◌∙◌, subst}
 use Rattle.std.specs.List.{list_all}
 use Rattle.std.specs.Str.{bytes_eq}
 use Rattle.std.proofs.lemmas.Bool.{and_parts, eq-eqb}
@@ -25,28 +25,36 @@ use Rattle.lp_fitting.specs.Fitting.{IsFitting}
 use Rattle.lp_emitted.specs.Emittable.{IsEmittable}
 use Rattle.lp_emitted.proofs.Fitting.{emitted_has_prefix}
 use Rattle.lp_table.specs.Starts.{start_for}
+use Rattle.lp_run.specs.Entered.{module_made}
 use Rattle.lp_run.specs.Module.{Module}
+use Rattle.lp_run.specs.ParseMethod.{parameters_of}
+use Rattle.lp_run.specs.ProgramRun.{Finish}
 use Rattle.lp_run.specs.RunTold.{RunsModule}
 use Rattle.lp_goto_slice.proofs.LinkHeaders.{IsWordy}
-use Rattle.lp_agrees.specs.Agrees.{Agrees, AllAgree}
-use Rattle.lp_agrees.specs.Emission.{EmissionAgrees, IsAsPrinted, IsByTables}
+use Rattle.lp_goto_slice.proofs.GotoAnswered.{built_items}
+use Rattle.lp_view.specs.PartLists.{Form}
+use Rattle.lp_agrees.specs.Machine.{MatchesOne}
+use Rattle.lp_agrees.specs.Agrees.{Agrees, Told}
+use Rattle.lp_agrees.specs.Emission.{IsByTables}
 use Rattle.lp_composed.proofs.Answers.{AnswersRestBuilt, answers_all}
 use Rattle.lp_composed.proofs.Counts.{productions_fit, states_fit}
-use Rattle.lp_composed.proofs.Entering.{EntersCode, read_enters}
+use Rattle.lp_composed.proofs.Counting.{cost_less, counted}
+use Rattle.lp_composed.proofs.Entering.{EntersCode}
 use Rattle.lp_composed.proofs.Modules.{IsOther}
 use Rattle.lp_composed.proofs.Names.{words_lack}
 use Rattle.lp_composed.proofs.Parameters.{parameters_counted}
 use Rattle.lp_composed.proofs.Plain.{parameters_plain}
-use Rattle.lp_composed.proofs.Runs.{built_module, module_runs}
+use Rattle.lp_composed.proofs.Runs.{module_runs}
 use Rattle.lp_composed.proofs.Told.{built_told}
-use Rattle.lp_composed.proofs.Weights.{cost_fits, read_weight, steps_of_actions, symbols_of}
+use Rattle.lp_composed.proofs.ProgramWeights.{built_counts}
+use Rattle.lp_composed.proofs.Weights.{steps_of_actions, symbols_of}
 
 -- no two starts have one public name
 abbrev pub AreApart : Grammar → Type 0
 AreApart g =
     (i j : ℕ) (names other : NonterminalString × NonterminalString) → j < i → slice_get g.start_nonterminals.entries i ≡ Some names → slice_get g.start_nonterminals.entries j ≡ Some other → bytes_eq other.0.0 names.0.0 ≡ false
 
-others : (g : Grammar) → AreApart g → (i : ℕ) (names : NonterminalString × NonterminalString) → slice_get g.start_nonterminals.entries i ≡ Some names → (j : ℕ) → j < i → IsOther names.0.0 (slice_get g.start_nonterminals.entries j)
+pub others : (g : Grammar) → AreApart g → (i : ℕ) (names : NonterminalString × NonterminalString) → slice_get g.start_nonterminals.entries i ≡ Some names → (j : ℕ) → j < i → IsOther names.0.0 (slice_get g.start_nonterminals.entries j)
 others g apart i names at j less = by (slice_get g.start_nonterminals.entries j) refl
   where
     by : (o : Option (NonterminalString × NonterminalString)) → slice_get g.start_nonterminals.entries j ≡ o → IsOther names.0.0 o
@@ -66,44 +74,43 @@ abbrev pub StartAnswers : Grammar → Program → StartStates → NonterminalStr
 StartAnswers g built list names cost =
     (items : List RunItem) (params : List Text) (failing : List ℕ) → length params ≡ length g.parameters → AnswersRestBuilt g.prefix (program_items built) g list.states (start_for g names.0 names.1) items params failing cost
 
--- those of all starts do
-abbrev pub AllAnswer : Grammar → List StartStates → Program → ℕ → Type 0
-AllAnswer g states built cost =
-    (i : ℕ) (names : NonterminalString × NonterminalString) (list : StartStates) → slice_get g.start_nonterminals.entries i ≡ Some names → slice_get states i ≡ Some list → StartAnswers g built list names cost
-
 -- a cost that is no more than what a program weighs at least, and not too small
 pub record IsCost (g : Grammar) (cost : ℕ) : Type 0 where
   pub some : 2 ≤ cost
   pub few : cost ≤ 33 + symbols_of (productions_of g) + steps_of_actions g.action_fn_defns
 
-valid_at : (g : Grammar) (states : List StartStates) (i : ℕ) (list : StartStates) → slice_get states i ≡ Some list → IfSome (slice_get states i) (λ l. IsValidTables g i l.states) → IsValidTables g i list.states
+pub valid_at : (g : Grammar) (states : List StartStates) (i : ℕ) (list : StartStates) → slice_get states i ≡ Some list → IfSome (slice_get states i) (λ l. IsValidTables g i l.states) → IsValidTables g i list.states
 valid_at g states i list has valid = subst (λ (o : Option StartStates). IfSome o (λ l. IsValidTables g i l.states)) has valid
 
-module _ (g : Grammar) (states : List StartStates) (options : Options) (built read : Program) (may : IsEmittable g states) (is_built : IsBuilt g states built) (fits : IsFitting built) (printed : IsAsPrinted options built read)
-    (by : IsByTables g.algorithm.codegen) (apart : AreApart g) (cost : ℕ) (is_cost : IsCost g cost) where
-  -- a start whose module answers agrees with its tables
-  pub start_agrees : (i : ℕ) (names : NonterminalString × NonterminalString) (list : StartStates) → slice_get g.start_nonterminals.entries i ≡ Some names → slice_get states i ≡ Some list → StartAnswers g built list names cost → Agrees read g list.states Trial names.0.0
-  start_agrees i names list at has answers items params failing budget enough known finish runs =
+-- ---- a start whose items are entered
+-- runs of the code of these items are told by the machine over a start's states, a move costing at most so much
+abbrev pub IsTold : Grammar → Program → StartStates → Form → ℕ → Type 0
+IsTold g built list form most =
+    (items : List RunItem) (params : List Text) (failing : List ℕ) (budget : ℕ) → length params ≡ length g.parameters → All (MatchesOne g) items
+    → (finish : Finish) → RunsModule (module_made g.prefix (program_items built) form) items params failing budget finish → Told g list.states Trial items params failing most budget finish
+
+-- so the start agrees with them where they are entered, and have the grammar's parameters
+pub agrees_entered : (g : Grammar) (built read : Program) (name : List ℕ) (list : StartStates) (form : Form) → EntersCode read name (module_made g.prefix (program_items built) form) (parameters_of g.prefix form).next
+    → (parameters_of g.prefix form).next ≡ length g.parameters → IsTold g built list form (weight read * weight read) → Agrees read g list.states Trial name
+agrees_entered g built read name list form code counted told items params failing budget enough known finish runs =
+    told items params failing budget enough known finish
+    (subst (λ (m : Module). RunsModule m items params failing budget finish) code.is
+    (module_runs items params failing budget finish read name code.items code.enters (eq-eqb _ (length params) (code.counts ∙ counted ∙ sym enough)) runs))
+
+-- ---- by tables
+module _ (g : Grammar) (states : List StartStates) (built : Program) (may : IsEmittable g states) (is_built : IsBuilt g states built) (fits : IsFitting built) (by : IsByTables g.algorithm.codegen) (cost : ℕ) (is_cost : IsCost g cost)
+    (i : ℕ) (names : NonterminalString × NonterminalString) (list : StartStates) (at : slice_get g.start_nonterminals.entries i ≡ Some names) (has : slice_get states i ≡ Some list) where
+  -- where the module of a start answers by the tables, its runs are told by the machine
+  pub tables_told : StartAnswers g built list names cost → (heavy : ℕ) → counted (program_items built) ≤ heavy → IsTold g built list (built_items g list.states (start_for g names.0 names.1)) (heavy * heavy)
+  tables_told answers heavy weighs items params failing budget enough known finish run =
       let st = start_for g names.0 names.1 in
-      let wordy = prefix_wordy g states built may is_built fits in
-      let plain = parameters_plain g states built is_built by fits i names list at has in
-      let code : EntersCode read names.0.0 (built_module g.prefix (program_items built) g list.states st) _ = read_enters g states options built read is_built by printed i names list at has (others g apart i names at) in
-      let count = code.counts ∙ parameters_counted g list.states st wordy plain ∙ sym enough in
-      let run : RunsModule (built_module g.prefix (program_items built) g list.states st) items params failing budget finish =
-      subst (λ (m : Module). RunsModule m items params failing budget finish) code.is (module_runs items params failing budget finish read names.0.0 code.items code.enters (eq-eqb _ (length params) count) runs) in
       let tables = valid_at g states i list has (may.tabled i).1 in
       let begins = slice_get_within g.start_nonterminals.entries i names at in
-      let weighs = read_weight g states i names list at has options built read is_built by printed in
-      let few = cost_fits g states i names list at has cost options built read is_built by printed (let few = is_cost.few in omega (arith, few, weighs)) in
+      let least = built_counts g states i names list at has built is_built by in
+      let few : 9 * cost < heavy * heavy = cost_less cost heavy (let few = is_cost.few in omega (arith, few, least, weighs)) (omega (arith, least, weighs)) in
       let all = answers_all g.prefix (program_items built) g i list.states st may.valid tables begins (states_fit g states may i list has) (productions_fit g states may) items params failing cost is_cost.some (answers items params failing enough) in
-      built_told (program_items built) g i list.states st may.valid tables begins wordy plain items params failing cost (weight read * weight read) few all known budget finish run
+      built_told (program_items built) g i list.states st may.valid tables begins (prefix_wordy g states built may is_built fits) (parameters_plain g states built is_built by fits i names list at has) items params failing cost (heavy * heavy) few all known budget finish run
 
-  -- so all do, where all answer
-  pub all_agree : AllAnswer g states built cost → AllAgree read g states
-  all_agree answers i names list at has = start_agrees i names list at has (answers i names list at has)
-
--- what is emitted by tables agrees with them, where the built modules answer their drivers by these
-pub emission_agrees : (g : Grammar) (states : List StartStates) (options : Options) (cost : ℕ) → IsByTables g.algorithm.codegen → AreApart g → IsCost g cost
-    → (IsEmittable g states → (built : Program) → IsBuilt g states built → IsFitting built → AllAnswer g states built cost) → EmissionAgrees g states options
-emission_agrees g states options cost by apart is_cost answers may built read is_built fits printed =
-    all_agree g states options built read may is_built fits printed by apart cost is_cost (answers may built is_built fits)
+  -- and it takes the grammar's parameters
+  pub tables_counted : (parameters_of g.prefix (built_items g list.states (start_for g names.0 names.1))).next ≡ length g.parameters
+  tables_counted = parameters_counted g list.states (start_for g names.0 names.1) (prefix_wordy g states built may is_built fits) (parameters_plain g states built is_built by fits i names list at has)

@@ -1,6 +1,6 @@
 -- The built module answers each question by the tables, where it answers those about items, tokens, expected lists and reductions.
-use Rattle.std.proofs.Common.{◌≡◌, ℕ, ◌+◌, ◌*◌, ◌<◌, ◌≤◌, pos, Bool, true, false, List, ◌++◌, length, map, All, Option, Some, None, refl, ap, subst, arith}
-use Rattle.std.specs.Prelude.{cond, is_some, nat_lt, position}
+use Rattle.std.proofs.Common.{◌≡◌, ℕ, ◌+◌, ◌*◌, ◌<◌, ◌≤◌, pos, Bool, true, false, List, ◌++◌, length, map, All, Option, Some, None, refl, subst, arith}
+use Rattle.std.specs.Prelude.{cond, nat_lt, position}
 use Rattle.std.specs.List.{position_or_len}
 use Rattle.std.specs.Str.{bytes_eq}
 use Rattle.std.proofs.lemmas.Bool.{ltb-true}
@@ -13,7 +13,7 @@ use Rattle.lp_repr.specs.declared.numbering.SymbolNumber.TheVariants as by_numbe
 use Rattle.lp_repr.specs.declared.repr.Grammar.{Grammar}
 use Rattle.lp_repr.specs.declared.values.Loc.{Loc}
 use Rattle.lp_repr.specs.declared.values.RunItem.{RunItem}
-use Rattle.lp_driver.specs.Questions.{To_triple, Token_to_index, Token_to_symbol, Uses_recovery, Expected, Reduce}
+use Rattle.lp_driver.specs.Questions.{To_triple, Token_to_index, Token_to_symbol, Expected, Reduce}
 use Rattle.lp_driver.specs.Values.{Text, Token, Spanned, Value}
 use Rattle.lp_driver.specs.declared.answers.Expecting.TheVariants.{Trial}
 use Rattle.lp_core.specs.declared.expr.Table.{Table}

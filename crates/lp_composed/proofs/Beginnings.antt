@@ -8,6 +8,8 @@ use Rattle.lp_repr.specs.declared.repr.ActionFnDefnKind.{ActionFnDefnKind}
 use Rattle.lp_repr.specs.declared.repr.ActionFnDefnKind.TheVariants.{User, Lookaround, Inline}
 use Rattle.lp_repr.specs.declared.repr.Grammar.{Grammar}
 use Rattle.lp_repr.specs.declared.repr.InternToken.{InternToken}
+use Rattle.lp_repr.specs.declared.repr.LrCodeGeneration.{LrCodeGeneration}
+use Rattle.lp_repr.specs.declared.repr.LrCodeGeneration.TheVariants.{RecursiveAscent, TableDriven, TestAll}
 use Rattle.lp_repr.specs.declared.repr.NonterminalString.{NonterminalString}
 use Rattle.lp_repr.specs.declared.repr.TypeRepr.{TypeRepr}
 use Rattle.lp_tree.specs.ProgramTree.{Item, leaf, program_items}
@@ -22,13 +24,11 @@ use Rattle.lp_assembly.specs.Built.{IsBuilt, implementations, joined_clauses, tr
 use Rattle.lp_maker.specs.Making.{Making}
 use Rattle.lp_bodies.specs.Source.{is_located}
 use Rattle.lp_run.specs.Promised.{Beginning, Promising, promising_of, promised, header_number, is_source, is_action, with_action_form, beginning_of, beginning_row, beginning}
-use Rattle.lp_table.specs.BuiltTable.{built_table}
 use Rattle.lp_table.specs.FrameLines.{module_parts}
 use Rattle.lp_table.specs.Starts.{Start, start_for}
 use Rattle.lp_goto_slice.proofs.GotoCode.{over-append}
-use Rattle.lp_composed.proofs.Modules.{module_forms, start_forms}
+use Rattle.lp_composed.proofs.Modules.{module_by, module_forms, start_forms}
 use Rattle.lp_composed.proofs.Programs.{action_forms, attribute_form, front_forms, program_parts, token_forms, use_form}
-use Rattle.lp_agrees.specs.Emission.{IsByTables}
 
 -- ---- parts that stand for nothing there
 pub record IsIdle (form : Form) : Type 0 where
@@ -97,14 +97,16 @@ pub actions_act : (g : Grammar) (n : ℕ) (actions : List ActionFnDefn) → AreA
 actions_act g n [] = tt
 actions_act g n (a ∷ rest) = (kind_acts a.kind (has_parameters g) _, actions_act g (n + 1) rest)
 
-module_idle : (g : Grammar) (states : List Lr1State) (st : Start) → IsIdle (built_table g states st)
+module_idle : (c : LrCodeGeneration) (g : Grammar) (states : List Lr1State) (st : Start) → IsIdle (module_by c g states st)
 unfolding module_parts
-module_idle g states st = record { no_source = refl; no_action = refl }
+module_idle RecursiveAscent g states st = record { no_source = refl; no_action = refl }
+module_idle TableDriven g states st = record { no_source = refl; no_action = refl }
+module_idle TestAll g states st = record { no_source = refl; no_action = refl }
 
 start_idle : (g : Grammar) (names : Option (NonterminalString × NonterminalString)) (list : Option StartStates) → AreIdle (start_forms g names list)
 start_idle g None list = tt
 start_idle g (Some names) None = tt
-start_idle g (Some names) (Some list) = (module_idle g list.states (start_for g names.0 names.1), (record { no_source = refl; no_action = refl }, tt))
+start_idle g (Some names) (Some list) = (module_idle g.algorithm.codegen g list.states (start_for g names.0 names.1), (record { no_source = refl; no_action = refl }, tt))
 
 pub modules_idle : (g : Grammar) (states : List StartStates) (n : ℕ) → AreIdle (module_forms g states n)
 modules_idle g states zero = tt
@@ -144,11 +146,11 @@ triple_located g = (triple_by (joined_clauses g.where_clauses) (implementations 
 abbrev pub built_beginning : Grammar → Making → Beginning
 built_beginning g m = record { located = is_some g.types.loc; actions = over promised_action (promising_of [] m) (action_forms g 0 g.action_fn_defns) }
 
-pub beginning_is : (g : Grammar) (states : List StartStates) (program : Program) → IsBuilt g states program → IsByTables g.algorithm.codegen → (m : Making) → beginning m (program_items program) ≡ built_beginning g m
-beginning_is g states program is_built by m =
+pub beginning_is : (g : Grammar) (states : List StartStates) (program : Program) → IsBuilt g states program → (m : Making) → beginning m (program_items program) ≡ built_beginning g m
+beginning_is g states program is_built m =
     let modules = module_forms g states (length g.start_nonterminals.entries) in
     let front = (front_forms g ++ modules) ++ token_forms g g.intern_token in
-    ap (over beginning_row (beginning_of false [] m)) (program_parts g states program is_built by)
+    ap (over beginning_row (beginning_of false [] m)) (program_parts g states program is_built)
     ∙ all_rows m front (action_forms g 0 g.action_fn_defns) (triple_lines g)
     (idle-append (front_forms g ++ modules) (token_forms g g.intern_token) (idle-append (front_forms g) modules (front_idle g) (modules_idle g states (length g.start_nonterminals.entries))) (tokens_idle g g.intern_token))
     (actions_act g 0 g.action_fn_defns) (triple_source g)

@@ -9,6 +9,8 @@ use Rattle.lp_repr.specs.declared.lr1.Lr1State.{Lr1State}
 use Rattle.lp_repr.specs.declared.lr1.StartStates.{StartStates}
 use Rattle.lp_repr.specs.declared.repr.ActionFnDefn.{ActionFnDefn}
 use Rattle.lp_repr.specs.declared.repr.Grammar.{Grammar}
+use Rattle.lp_repr.specs.declared.repr.LrCodeGeneration.{LrCodeGeneration}
+use Rattle.lp_repr.specs.declared.repr.LrCodeGeneration.TheVariants.{RecursiveAscent, TableDriven, TestAll}
 use Rattle.lp_repr.specs.declared.repr.NonterminalString.{NonterminalString}
 use Rattle.lp_tree.specs.ProgramTree.{leaf, program_items}
 use Rattle.lp_tree.specs.declared.tree.Program.{Program}
@@ -19,6 +21,8 @@ use Rattle.lp_maker.specs.Making.{Making, defined, unmade}
 use Rattle.lp_maker.specs.Slots.{Names}
 use Rattle.lp_bodies.specs.Actions.{action_function, with_action}
 use Rattle.lp_bodies.specs.Source.{is_located}
+use Rattle.lp_ascent.specs.BuiltAscent.{built_ascent}
+use Rattle.lp_emitted.proofs.AscentModules.{built_ascent_one}
 use Rattle.lp_emitted.proofs.TableModules.{built_table_one}
 use Rattle.lp_run.specs.Entered.{finished_module, made_after, module_made, with_parse, with_source}
 use Rattle.lp_run.specs.Functions.{action_made, actions_made, all_made}
@@ -27,24 +31,31 @@ use Rattle.lp_run.specs.ParseMethod.{parameters_of}
 use Rattle.lp_run.specs.Promised.{Beginning, Promising, promising_of, promised, is_source, beginning_of, beginning_row, beginning, module_rows}
 use Rattle.lp_table.specs.BuiltTable.{built_table}
 use Rattle.lp_table.specs.Starts.{Start, start_for}
-use Rattle.lp_goto_slice.proofs.GotoAnswered.{built_items}
 use Rattle.lp_composed.proofs.Beginnings.{AreActions, AreIdle, IsAction, IsIdle, actions_act, all_rows, beginning_is, front_idle, idle-append, modules_idle, promised_action, tokens_idle, triple_located, triple_source}
 use Rattle.lp_composed.proofs.CodedActions.{action_coded, function_coded, number_coded}
 use Rattle.lp_composed.proofs.Codes.{maps_fixed, no_code, parts_coded, takes_fixed}
-use Rattle.lp_composed.proofs.Modules.{IsOther, module_forms, module_given, reexport_form, start_forms}
+use Rattle.lp_composed.proofs.Modules.{IsOther, items_by, module_by, module_forms, module_given, reexport_form, start_forms}
 use Rattle.lp_composed.proofs.Programs.{action_forms, attribute_form, front_forms, front_give_none, program_parts, token_forms, use_form}
 use Rattle.lp_composed.proofs.Rows.{given_behind, given_front}
 use Rattle.lp_composed.proofs.Settled.{coded}
-use Rattle.lp_agrees.specs.Emission.{IsByTables}
 
 module _ (whitespace : Bool) where
   abbrev c : Form → Form
   c = map (coded whitespace)
 
   -- ---- modules have no user code
-  module_fixed : (g : Grammar) (states : List Lr1State) (st : Start) → c (built_table g states st) ≡ built_table g states st
+  table_fixed : (g : Grammar) (states : List Lr1State) (st : Start) → c (built_table g states st) ≡ built_table g states st
   unfolding no_code
-  module_fixed g states st = takes_fixed whitespace {items = built_table g states st} (built_table_one {T = no_code} g states st (λ k d h. tt) (record { actions = tt; ends = tt }))
+  table_fixed g states st = takes_fixed whitespace {items = built_table g states st} (built_table_one {T = no_code} g states st (λ k d h. tt) (record { actions = tt; ends = tt }))
+
+  ascent_fixed : (g : Grammar) (states : List Lr1State) (st : Start) → c (built_ascent g states st) ≡ built_ascent g states st
+  unfolding no_code
+  ascent_fixed g states st = takes_fixed whitespace {items = built_ascent g states st} (built_ascent_one {T = no_code} g states st (λ k d h. tt) (record { actions = tt; ends = tt }))
+
+  module_fixed : (code : LrCodeGeneration) (g : Grammar) (states : List Lr1State) (st : Start) → c (module_by code g states st) ≡ module_by code g states st
+  module_fixed RecursiveAscent g states st = ascent_fixed g states st
+  module_fixed TableDriven g states st = table_fixed g states st
+  module_fixed TestAll g states st = table_fixed g states st
 
   reexport_fixed : (g : Grammar) (names : NonterminalString × NonterminalString) → c (reexport_form g names) ≡ reexport_form g names
   unfolding steps_of
@@ -54,7 +65,7 @@ module _ (whitespace : Bool) where
   start_fixed g None list = refl
   start_fixed g (Some names) None = refl
   start_fixed g (Some names) (Some list) =
-      ap (λ (f : Form). f ∷ c (reexport_form g names) ∷ []) (module_fixed g list.states (start_for g names.0 names.1)) ∙ ap (λ (f : Form). built_table g list.states (start_for g names.0 names.1) ∷ f ∷ []) (reexport_fixed g names)
+      ap (λ (f : Form). f ∷ c (reexport_form g names) ∷ []) (module_fixed g.algorithm.codegen g list.states (start_for g names.0 names.1)) ∙ ap (λ (f : Form). module_by g.algorithm.codegen g list.states (start_for g names.0 names.1) ∷ f ∷ []) (reexport_fixed g names)
 
   modules_fixed : (g : Grammar) (states : List StartStates) (n : ℕ) → map c (module_forms g states n) ≡ module_forms g states n
   modules_fixed g states zero = refl
@@ -72,11 +83,11 @@ module _ (whitespace : Bool) where
       map-append c (((a ++ b) ++ d) ++ e) (f ∷ [])
       ∙ ap (λ (x : List Form). x ++ c f ∷ []) (map-append c ((a ++ b) ++ d) e ∙ ap (λ (x : List Form). x ++ map c e) (map-append c (a ++ b) d ∙ ap (λ (x : List Form). x ++ map c d) (map-append c a b)))
 
-  module _ (g : Grammar) (states : List StartStates) (program : Program) (is_built : IsBuilt g states program) (by : IsByTables g.algorithm.codegen) where
+  module _ (g : Grammar) (states : List StartStates) (program : Program) (is_built : IsBuilt g states program) where
     coded_program_parts : parts_of (c (program_items program)) ≡ coded_forms g states
     coded_program_parts =
         let modules = module_forms g states (length g.start_nonterminals.entries) in
-        parts_coded whitespace (program_items program) ∙ ap (map c) (program_parts g states program is_built by)
+        parts_coded whitespace (program_items program) ∙ ap (map c) (program_parts g states program is_built)
         ∙ split (front_forms g) modules (token_forms g g.intern_token) (action_forms g 0 g.action_fn_defns) (triple_lines g)
         ∙ ap (λ (x : List Form). (((map c (front_forms g) ++ x) ++ map c (token_forms g g.intern_token)) ++ map c (action_forms g 0 g.action_fn_defns)) ++ c (triple_lines g) ∷ []) (modules_fixed g states (length g.start_nonterminals.entries))
 
@@ -91,13 +102,13 @@ module _ (whitespace : Bool) where
 
     -- the first start of a name
     pub coded_named : (name : List ℕ) (i : ℕ) (names : NonterminalString × NonterminalString) (list : StartStates) → slice_get g.start_nonterminals.entries i ≡ Some names → slice_get states i ≡ Some list → names.0.0 ≡ name
-        → ((j : ℕ) → j < i → IsOther name (slice_get g.start_nonterminals.entries j)) → items_under name (c (program_items program)) ≡ Some (built_items g list.states (start_for g names.0 names.1))
+        → ((j : ℕ) → j < i → IsOther name (slice_get g.start_nonterminals.entries j)) → items_under name (c (program_items program)) ≡ Some (items_by g.algorithm.codegen g list.states (start_for g names.0 names.1))
     coded_named name i names list at has is first =
         let f = entered_by name in
         let modules = module_forms g states (length g.start_nonterminals.entries) in
         let tokens = map c (token_forms g g.intern_token) in
         let actions = map c (action_forms g 0 g.action_fn_defns) in
-        let items = built_items g list.states (start_for g names.0 names.1) in
+        let items = items_by g.algorithm.codegen g list.states (start_for g names.0 names.1) in
         let given : first_given f modules ≡ Some items = module_given g states name i names list at has is first (length g.start_nonterminals.entries) (slice_get_within g.start_nonterminals.entries i names at) in
         let here : first_given f (map c (front_forms g) ++ modules) ≡ Some items = ap (λ (x : List Form). first_given f (x ++ modules)) front_fixed ∙ given_behind f (front_forms g) modules (front_give_none g name) ∙ given in
         let more : first_given f ((map c (front_forms g) ++ modules) ++ tokens) ≡ Some items = given_front f (map c (front_forms g) ++ modules) tokens items here in
@@ -151,19 +162,19 @@ module _ (whitespace : Bool) where
   abbrev beginning_at : Bool → Promising → Beginning
   beginning_at located s = record { located = located; actions = s }
 
-  module _ (g : Grammar) (states : List StartStates) (program : Program) (is_built : IsBuilt g states program) (by : IsByTables g.algorithm.codegen) where
+  module _ (g : Grammar) (states : List StartStates) (program : Program) (is_built : IsBuilt g states program) where
     coded_beginning_is : (m : Making) → beginning m (c (program_items program)) ≡ coded_beginning (beginning m (program_items program))
     coded_beginning_is m =
         let modules = module_forms g states (length g.start_nonterminals.entries) in
         let tokens = map c (token_forms g g.intern_token) in
         let acts = action_forms g 0 g.action_fn_defns in
-        ap (over beginning_row (beginning_of false [] m)) (coded_program_parts g states program is_built by)
+        ap (over beginning_row (beginning_of false [] m)) (coded_program_parts g states program is_built)
         ∙ all_rows m ((map c (front_forms g) ++ modules) ++ tokens) (map c acts) (c (triple_lines g))
         (idle-append (map c (front_forms g) ++ modules) tokens (idle-append (map c (front_forms g)) modules (idles_coded (front_forms g) (front_idle g)) (modules_idle g states (length g.start_nonterminals.entries))) (idles_coded (token_forms g g.intern_token) (tokens_idle g g.intern_token)))
         (acts_coded acts (actions_act g 0 g.action_fn_defns)) (triple_is_source (triple_lines g) (triple_source g))
         ∙ ap (λ (l : Bool). beginning_at l (over promised_action (promising_of [] m) (map c acts))) (located_coded (triple_lines g) ∙ triple_located g)
         ∙ ap (beginning_at (is_some g.types.loc)) (all_promised g 0 g.action_fn_defns (promising_of [] m))
-        ∙ ap coded_beginning (sym (beginning_is g states program is_built by m))
+        ∙ ap coded_beginning (sym (beginning_is g states program is_built m))
 
   -- ---- the functions of actions
   -- promises of a grammar's actions
@@ -192,7 +203,7 @@ module _ (whitespace : Bool) where
       ap (λ (x : Making). actions_made x (map coded_promise rs)) same ∙ actions_coded g (action_made m r) rs are.1
 
   -- ---- the code of items
-  module _ (g : Grammar) (states : List StartStates) (program : Program) (is_built : IsBuilt g states program) (by : IsByTables g.algorithm.codegen) where
+  module _ (g : Grammar) (states : List StartStates) (program : Program) (is_built : IsBuilt g states program) where
     after_coded : (items : Form) (names : Names) (b : Beginning) → AreOf g b.actions.promises → made_after items names (coded_beginning b) ≡ made_after items names b
     unfolding made_after
     after_coded items names b are =
@@ -200,12 +211,12 @@ module _ (whitespace : Bool) where
         ap (with_parse items names) (actions_coded g (all_made s.made s.promises) b.actions.promises are)
 
     beginning_of_actions : (m : Making) → AreOf g (beginning m (program_items program)).actions.promises
-    beginning_of_actions m = subst (λ (b : Beginning). AreOf g b.actions.promises) (sym (beginning_is g states program is_built by m)) (promises_of_actions g 0 g.action_fn_defns (promising_of [] m) tt)
+    beginning_of_actions m = subst (λ (b : Beginning). AreOf g b.actions.promises) (sym (beginning_is g states program is_built m)) (promises_of_actions g 0 g.action_fn_defns (promising_of [] m) tt)
 
     pub module_coded : (prefix : List ℕ) (items : Form) → module_made prefix (c (program_items program)) items ≡ module_made prefix (program_items program) items
     unfolding module_made
     module_coded prefix items =
         let names = parameters_of prefix items in
         let b = beginning (unmade prefix) (program_items program) in
-        ap (λ (x : Beginning). finished_module names.next x.located (made_after items names x)) (coded_beginning_is g states program is_built by (unmade prefix))
+        ap (λ (x : Beginning). finished_module names.next x.located (made_after items names x)) (coded_beginning_is g states program is_built (unmade prefix))
         ∙ ap (finished_module names.next b.located) (after_coded items names b (beginning_of_actions (unmade prefix)))

@@ -21,9 +21,8 @@ use Rattle.lp_run.specs.ParseMethod.{Parsing, By_driver, Fields, fields_of, fiel
 use Rattle.lp_goto_slice.proofs.GotoAnswered.{built_items}
 use Rattle.lp_goto_slice.proofs.LinkHeaders.{IsWordy}
 use Rattle.lp_goto_slice.proofs.LinkModule.{complete}
-use Rattle.lp_goto_slice.proofs.LinkTable.{items_driven}
-use Rattle.lp_composed.proofs.Modules.{parser_found}
-use Rattle.lp_composed.proofs.Parameters.{ArePlain, AreThere, all_bound, parameters_are, parser_rows, row_form, rows_are, slots_in, slots_there, values_there}
+use Rattle.lp_goto_slice.proofs.LinkTable.{items_driven, parser_found, parser_rows}
+use Rattle.lp_composed.proofs.Parameters.{ArePlain, AreThere, all_bound, parameters_are, row_form, rows_are, slots_in, slots_there, values_there}
 use Rattle.lp_composed.proofs.Rows.{parts_are, found_behind}
 use Rattle.lp_composed.proofs.Runs.{own_fields, own_methods, drives}
 

@@ -1,5 +1,7 @@
 pub mod Runs
 pub mod Rows
+pub mod ModuleParts
+pub mod AscentModules
 pub mod Modules
 pub mod Programs
 pub mod Names
@@ -12,6 +14,10 @@ pub mod SeenTables
 pub mod SeenReductions
 pub mod SeenActions
 pub mod SeenModules
+pub mod SeenAscentReductions
+pub mod SeenAscentArms
+pub mod SeenGotos
+pub mod SeenStates
 pub mod SeenMade
 pub mod Codes
 pub mod Beginnings
@@ -20,8 +26,11 @@ pub mod CodedPrograms
 pub mod Entering
 pub mod Plain
 pub mod Agreement
+pub mod AscentAgreement
 pub mod Counting
 pub mod Weights
+pub mod AscentWeights
+pub mod ProgramWeights
 pub mod Apart
 pub mod Promises
 pub mod Counts

@@ -14,22 +14,25 @@ use Rattle.lp_core.specs.Val.{Val}
 use Rattle.lp_tree.specs.ProgramTree.{Item, leaf}
 use Rattle.lp_build.specs.Built as built
 use Rattle.lp_build.specs.Built.{text_rows, row}
-use Rattle.lp_build.specs.Functions.{clause_lines, name_holes, name_part, parser_part, result_line}
+use Rattle.lp_build.specs.Functions.{clause_lines, name_holes, name_part, result_line}
 use Rattle.lp_build.specs.declared.functions.FunctionName.TheVariants as name
 use Rattle.lp_view.specs.PartLists.{Form, is_a, parts_of, over, first_that}
 use Rattle.lp_maker.specs.Slots.{Names, no_names, bound, slot_after, slot_among, slot_of}
 use Rattle.lp_maker.specs.Texts.{bound_of}
-use Rattle.lp_table.specs.FrameLines.{is_interned, parse_answer, parse_generics, parse_header, parse_parameters, parser_parts, source_lines, table_parser}
+use Rattle.lp_ascent.specs.BuiltAscent.{ascent_parser, first_call}
+use Rattle.lp_table.specs.FrameLines.{is_interned, parse_answer, parse_generics, parse_header, parse_parameters, source_lines, table_parser}
 use Rattle.lp_table.specs.Headers.{clauses_of, declared_text, declared_texts, header_lines}
 use Rattle.lp_table.specs.MachineLines.{drive_call}
 use Rattle.lp_table.specs.Starts.{Start}
 use Rattle.lp_turns.specs.Readings.{field_values, param_val, with_value}
+use Rattle.lp_run.specs.Named.{parser_of}
 use Rattle.lp_run.specs.ParseMethod.{with_parameter, with_binding, parameter_row, header_names, parser_names, parameters_of}
 use Rattle.lp_goto_slice.proofs.GotoAnswered.{built_items}
 use Rattle.lp_goto_slice.proofs.GotoCode.{over-append, lacks-append}
 use Rattle.lp_goto_slice.proofs.LinkHeaders.{IsWordy, wordy_by, named_bound, prefixed_plain, IsName}
-use Rattle.lp_goto_slice.proofs.Whole.{IsWhole}
-use Rattle.lp_composed.proofs.Modules.{parser_found}
+use Rattle.lp_goto_slice.proofs.LinkTable.{parser_found, parser_rows}
+use Rattle.lp_composed.proofs.AscentModules.{ascent_form}
+use Rattle.lp_composed.proofs.AscentModules.{parser_found as ascent_found, parser_rows as ascent_rows}
 use Rattle.lp_composed.proofs.Names.{IsPlainName, plain_bound, plain_stays, no_tokens}
 use Rattle.lp_form.specs.declared.part.Part.{Part}
 use Rattle.std.proofs.lemmas.List.{map-append}
@@ -137,46 +140,45 @@ parse_bound g wordy are = by (is_interned g)
         ∙ tokens_idle g.prefix (32 ∷ (g.prefix ++ codes "TOKENS")) (all_bound no_names g.parameters) wordy
 
 -- ---- the parameters of the built module
-module _ (g : Grammar) (states : List Lr1State) (st : Start) where
-  source_whole : IsWhole (source_lines g)
-  unfolding source_lines
-  source_whole = refl
-
-  drive_whole : IsWhole (drive_call g)
-  unfolding drive_call
-  drive_whole = refl
-
-  header_whole : IsWhole (parse_header g st)
-  unfolding parse_header header_lines
-  header_whole = refl
-
+module _ (g : Grammar) (st : Start) where
   header_is : is_a part.HeaderParse (parse_header g st) ≡ true
   unfolding parse_header header_lines
   header_is = refl
-
-  pub parser_rows : parts_of (table_parser g st (drive_call g)) ≡ parse_header g st ∷ source_lines g ∷ drive_call g ∷ []
-  unfolding table_parser parser_parts
-  parser_rows = parts_are (parser_part false (is_interned g)) (st.visibility ∷ st.public_name ∷ []) (forms_then (forms_then (one_form (parse_header g st) header_whole) (one_form (source_lines g) source_whole)) (one_form (drive_call g) drive_whole))
-
-  header_found : first_that (is_a part.HeaderParse) (parts_of (table_parser g st (drive_call g))) ≡ Some (parse_header g st)
-  header_found = ap (first_that (is_a part.HeaderParse)) parser_rows ∙ found_behind (is_a part.HeaderParse) [] (parse_header g st) (source_lines g ∷ drive_call g ∷ []) tt header_is
 
   header_names_are : header_names g.prefix (Some (parse_header g st)) ≡ over (parameter_row g.prefix) no_names (map (row_form part.ParameterRow) (parse_parameters g))
   unfolding parse_header
   header_names_are = header_named g.prefix (name.Parse st.visibility) (parse_generics g) (parse_parameters g) (parse_answer g st) (clauses_of g)
 
-  pub parameters_are : IsWordy g.prefix → ArePlain g.prefix g.parameters → parameters_of g.prefix (built_items g states st) ≡ all_bound no_names g.parameters
+  -- those of items whose parser begins with this header
+  pub parameters_under : (items parser : Form) (rest : List Form) → parser_of items ≡ Some parser → parts_of parser ≡ parse_header g st ∷ rest → IsWordy g.prefix → ArePlain g.prefix g.parameters → parameters_of g.prefix items ≡ all_bound no_names g.parameters
   unfolding parameters_of
-  parameters_are wordy are =
-      ap (parser_names g.prefix) (parser_found g states st) ∙ ap (header_names g.prefix) header_found ∙ header_names_are ∙ parse_bound g wordy are
+  parameters_under items parser rest found parts wordy are =
+      ap (parser_names g.prefix) found
+      ∙ ap (λ (fs : List Form). header_names g.prefix (first_that (is_a part.HeaderParse) fs)) parts
+      ∙ ap (header_names g.prefix) (found_behind (is_a part.HeaderParse) [] (parse_header g st) rest tt header_is)
+      ∙ header_names_are ∙ parse_bound g wordy are
+
+module _ (g : Grammar) (states : List Lr1State) (st : Start) where
+  -- by tables, and by recursive ascent
+  pub parameters_are : IsWordy g.prefix → ArePlain g.prefix g.parameters → parameters_of g.prefix (built_items g states st) ≡ all_bound no_names g.parameters
+  parameters_are = parameters_under g st (built_items g states st) (table_parser g st (drive_call g)) (source_lines g ∷ drive_call g ∷ []) (parser_found g states st) (parser_rows g states st)
+
+  pub ascent_parameters_are : IsWordy g.prefix → ArePlain g.prefix g.parameters → parameters_of g.prefix (ascent_form g states st) ≡ all_bound no_names g.parameters
+  ascent_parameters_are = parameters_under g st (ascent_form g states st) (ascent_parser g states st) (source_lines g ∷ first_call g states st ∷ []) (ascent_found g states st) (ascent_rows g states st)
 
 -- as many as the grammar has
 bound_count : (ps : List Parameter) (names : Names) → (all_bound names ps).next ≡ names.next + length ps
 bound_count [] names = omega arith
 bound_count (p ∷ ps) names = (let e = bound_count ps (bound p.name names) in omega (arith, e))
 
+all_count : (g : Grammar) → (all_bound no_names g.parameters).next ≡ length g.parameters
+all_count g = (let e = bound_count g.parameters no_names in omega (arith, e))
+
 pub parameters_counted : (g : Grammar) (states : List Lr1State) (st : Start) → IsWordy g.prefix → ArePlain g.prefix g.parameters → (parameters_of g.prefix (built_items g states st)).next ≡ length g.parameters
-parameters_counted g states st wordy are = ap (λ (n : Names). n.next) (parameters_are g states st wordy are) ∙ (let e = bound_count g.parameters no_names in omega (arith, e))
+parameters_counted g states st wordy are = ap (λ (n : Names). n.next) (parameters_are g states st wordy are) ∙ all_count g
+
+pub ascent_parameters_counted : (g : Grammar) (states : List Lr1State) (st : Start) → IsWordy g.prefix → ArePlain g.prefix g.parameters → (parameters_of g.prefix (ascent_form g states st)).next ≡ length g.parameters
+ascent_parameters_counted g states st wordy are = ap (λ (n : Names). n.next) (ascent_parameters_are g states st wordy are) ∙ all_count g
 
 -- ---- fields
 -- each of some numbers is there

@@ -13,6 +13,7 @@ use Rattle.lp_repr.specs.Names.{same_text}
 use Rattle.lp_repr.specs.declared.lr1.Lr1State.{Lr1State}
 use Rattle.lp_repr.specs.declared.lr1.StartStates.{StartStates}
 use Rattle.lp_repr.specs.declared.repr.Grammar.{Grammar}
+use Rattle.lp_repr.specs.declared.repr.LrCodeGeneration.TheVariants.{RecursiveAscent}
 use Rattle.lp_repr.specs.declared.repr.NonterminalString.{NonterminalString}
 use Rattle.lp_repr.specs.declared.repr.Parameter.{Parameter}
 use Rattle.lp_tree.specs.ProgramTree.{Item, item, leaf, program_items}
@@ -30,6 +31,7 @@ use Rattle.lp_spelling.specs.HoleEnds.{first_at, place}
 use Rattle.lp_texts.specs.Identifiers.{is_identifier}
 use Rattle.lp_texts.specs.Identifiers as identifiers
 use Rattle.lp_maker.specs.Texts.{begins}
+use Rattle.lp_ascent.specs.BuiltAscent.{built_ascent}
 use Rattle.lp_table.specs.BuiltTable.{built_table, table_items, with_machine, with_tables}
 use Rattle.lp_table.specs.FrameLines.{inner_uses, module_parts, parse_header, parser_parts, source_lines, table_parser, token_use_lines}
 use Rattle.lp_table.specs.Headers as header
@@ -38,7 +40,7 @@ use Rattle.lp_table.specs.TokenLines.{token_numbers, token_symbols}
 use Rattle.lp_table.specs.ReductionLines.{pop_functions, reduce_function, reduce_functions}
 use Rattle.lp_table.specs.Starts.{Start, start_for}
 use Rattle.lp_goto_slice.proofs.Whole.{flat, flat-append}
-use Rattle.lp_composed.proofs.Modules.{module_forms, reexport_form, start_forms}
+use Rattle.lp_composed.proofs.Modules.{module_by, module_forms, module_of_ascent, module_of_tables, reexport_form, start_forms}
 use Rattle.lp_composed.proofs.Names.{IsPlainName}
 use Rattle.lp_composed.proofs.Parameters.{ArePlain}
 use Rattle.lp_composed.proofs.Programs.{action_forms, front_forms, program_flat, program_forms, token_forms}
@@ -68,7 +70,7 @@ module _ (P : Item → Type 0) (g : Grammar) (states : List StartStates) where
 
   module _ (i : ℕ) (names : NonterminalString × NonterminalString) (list : StartStates) (at : slice_get g.start_nonterminals.entries i ≡ Some names) (has : slice_get states i ≡ Some list) where
     abbrev its_module : Form
-    its_module = built_table g list.states (start_for g names.0 names.1)
+    its_module = module_by g.algorithm.codegen g list.states (start_for g names.0 names.1)
 
     start_each : Each P (flat (start_forms g (slice_get g.start_nonterminals.entries i) (slice_get states i))) → Each P its_module
     start_each e =
@@ -194,15 +196,25 @@ rows_plain : (prefix : List ℕ) (ps : List Parameter) → Each (ItemFits prefix
 rows_plain prefix [] e = tt
 rows_plain prefix (p ∷ ps) e = (row_plain prefix p.name e.0, rows_plain prefix ps e.1)
 
-module _ (g : Grammar) (states : List StartStates) (program : Program) (is_built : IsBuilt g states program) (by : IsByTables g.algorithm.codegen) (fits : IsFitting program) (i : ℕ) (names : NonterminalString × NonterminalString) (list : StartStates) (at : slice_get g.start_nonterminals.entries i ≡ Some names)
+module _ (g : Grammar) (states : List StartStates) (program : Program) (is_built : IsBuilt g states program) (fits : IsFitting program) (i : ℕ) (names : NonterminalString × NonterminalString) (list : StartStates) (at : slice_get g.start_nonterminals.entries i ≡ Some names)
     (has : slice_get states i ≡ Some list) where
   -- where the texts of a program fit that was built with a module, those of the module do
-  pub module_fits : Each (ItemFits g.prefix) (built_table g list.states (start_for g names.0 names.1))
-  module_fits =
+  pub start_fits : Each (ItemFits g.prefix) (module_by g.algorithm.codegen g list.states (start_for g names.0 names.1))
+  start_fits =
       let P = ItemFits g.prefix in
       let all : Each P (program_items program) = subst (λ (p : List ℕ). Each (ItemFits p) (program_items program)) is_built.prefix (fitting_each program.prefix program.entries.items fits.parts) in
-      let parts : Each P (flat (program_forms g states)) = (subst (Each P) (program_flat g states program is_built by) all).1 in
+      let parts : Each P (flat (program_forms g states)) = (subst (Each P) (program_flat g states program is_built) all).1 in
       program_each P g states i names list at has (slice_get_within g.start_nonterminals.entries i names at) parts
+
+  -- by recursive ascent
+  pub ascent_fits : g.algorithm.codegen ≡ RecursiveAscent → Each (ItemFits g.prefix) (built_ascent g list.states (start_for g names.0 names.1))
+  ascent_fits is = subst (Each (ItemFits g.prefix)) (module_of_ascent g.algorithm.codegen g list.states (start_for g names.0 names.1) is) start_fits
+
+module _ (g : Grammar) (states : List StartStates) (program : Program) (is_built : IsBuilt g states program) (by : IsByTables g.algorithm.codegen) (fits : IsFitting program) (i : ℕ) (names : NonterminalString × NonterminalString) (list : StartStates) (at : slice_get g.start_nonterminals.entries i ≡ Some names)
+    (has : slice_get states i ≡ Some list) where
+  -- by tables
+  pub module_fits : Each (ItemFits g.prefix) (built_table g list.states (start_for g names.0 names.1))
+  module_fits = subst (Each (ItemFits g.prefix)) (module_of_tables g.algorithm.codegen g list.states (start_for g names.0 names.1) by) (start_fits g states program is_built fits i names list at has)
 
   -- and the names of parameters are plain
   pub parameters_plain : ArePlain g.prefix g.parameters

@@ -1,4 +1,4 @@
--- The parts of a program that was built with table-driven code, and what a name enters in it.
+-- The parts of a program that was built, and what a name enters in it.
 use Rattle.std.proofs.Common.{◌≡◌, ℕ, ◌+◌, ◌<◌, List, [], ◌∷◌, ◌++◌, map, length, Option, Some, None, slice_get, refl, ap, ◌∙◌}
 use Rattle.std.proofs.lemmas.Option.{slice_get_within}
 use Rattle.lp_form.specs.declared.part.Part.TheVariants as part
@@ -15,11 +15,9 @@ use Rattle.lp_table.specs.Starts.{start_for}
 use Rattle.lp_actions.specs.ActionFunctions.{action_functions, action_lines, functions_from}
 use Rattle.lp_assembly.specs.Built.{IsBuilt, front_lines, intern_lines, token_lines, triple_lines}
 use Rattle.lp_run.specs.Named.{named, entered_by}
-use Rattle.lp_goto_slice.proofs.GotoAnswered.{built_items}
 use Rattle.lp_goto_slice.proofs.Whole.{IsWhole, flat}
-use Rattle.lp_composed.proofs.Modules.{IsOther, module_forms, module_given, modules_are}
+use Rattle.lp_composed.proofs.Modules.{IsOther, items_by, module_forms, module_given, modules_are}
 use Rattle.lp_composed.proofs.Rows.{AreForms, no_form, one_form, forms_then, forms_flat, parts_are, GiveNone, given_behind, given_front, none-append, none_map}
-use Rattle.lp_agrees.specs.Emission.{IsByTables}
 
 -- ---- what stands before the modules and behind them
 abbrev pub attribute_form : List ℕ → Form
@@ -71,10 +69,10 @@ front_give_none g name =
     (none-append (entered_by name) (map attribute_form g.module_attributes) (map use_form g.uses) (none_map (entered_by name) attribute_form (λ text. refl) g.module_attributes) (none_map (entered_by name) use_form (λ text. refl) g.uses))
     (refl, tt)
 
-module _ (g : Grammar) (states : List StartStates) (program : Program) (is_built : IsBuilt g states program) (by : IsByTables g.algorithm.codegen) where
+module _ (g : Grammar) (states : List StartStates) (program : Program) (is_built : IsBuilt g states program) where
   program_are : AreForms ((((front_lines g ++ is_built.modules) ++ token_lines g g.intern_token) ++ action_functions g) ++ triple_lines g) (program_forms g states)
   program_are =
-      forms_then (forms_then (forms_then (forms_then (front_are g) (modules_are g states by (length g.start_nonterminals.entries) is_built.modules is_built.each)) (tokens_are g g.intern_token)) (actions_are g)) (one_form (triple_lines g) (triple_whole g))
+      forms_then (forms_then (forms_then (forms_then (front_are g) (modules_are g states (length g.start_nonterminals.entries) is_built.modules is_built.each)) (tokens_are g g.intern_token)) (actions_are g)) (one_form (triple_lines g) (triple_whole g))
 
   pub program_parts : parts_of (program_items program) ≡ program_forms g states
   program_parts = ap parts_of is_built.parts ∙ parts_are part.Program [] program_are
@@ -84,11 +82,11 @@ module _ (g : Grammar) (states : List StartStates) (program : Program) (is_built
 
   -- the first start of a name is entered by it
   pub named_is : (name : List ℕ) (i : ℕ) (names : NonterminalString × NonterminalString) (list : StartStates) → slice_get g.start_nonterminals.entries i ≡ Some names → slice_get states i ≡ Some list → names.0.0 ≡ name
-      → ((j : ℕ) → j < i → IsOther name (slice_get g.start_nonterminals.entries j)) → named program name ≡ Some (built_items g list.states (start_for g names.0 names.1))
+      → ((j : ℕ) → j < i → IsOther name (slice_get g.start_nonterminals.entries j)) → named program name ≡ Some (items_by g.algorithm.codegen g list.states (start_for g names.0 names.1))
   named_is name i names list at has is first =
       let f = entered_by name in
       let modules = module_forms g states (length g.start_nonterminals.entries) in
-      let items = built_items g list.states (start_for g names.0 names.1) in
+      let items = items_by g.algorithm.codegen g list.states (start_for g names.0 names.1) in
       let given : first_given f modules ≡ Some items = module_given g states name i names list at has is first (length g.start_nonterminals.entries) (slice_get_within g.start_nonterminals.entries i names at) in
       let here : first_given f (front_forms g ++ modules) ≡ Some items = given_behind f (front_forms g) modules (front_give_none g name) ∙ given in
       let more : first_given f ((front_forms g ++ modules) ++ token_forms g g.intern_token) ≡ Some items = given_front f (front_forms g ++ modules) (token_forms g g.intern_token) items here in

@@ -11,7 +11,6 @@ use Rattle.lp_run.specs.Promised.{Beginning, beginning}
 use Rattle.lp_composed.proofs.Beginnings.{AreActions, AreIdle, actions_act, beginning_is, front_idle, idle-append, modules_idle, tokens_idle}
 use Rattle.lp_composed.proofs.Modules.{module_forms}
 use Rattle.lp_composed.proofs.Programs.{action_forms, front_forms, program_parts, token_forms}
-use Rattle.lp_agrees.specs.Emission.{IsByTables}
 
 -- the functions of a grammar's actions stand side by side, behind parts that stand for nothing, and how items become triples comes last
 pub record HasActionParts (g : Grammar) (program : Form) : Type 0 where
@@ -20,18 +19,18 @@ pub record HasActionParts (g : Grammar) (program : Form) : Type 0 where
   pub idle : AreIdle before
   pub act : AreActions (action_forms g 0 g.action_fn_defns)
 
-module _ (g : Grammar) (states : List StartStates) (program : Program) (is_built : IsBuilt g states program) (by : IsByTables g.algorithm.codegen) where
+module _ (g : Grammar) (states : List StartStates) (program : Program) (is_built : IsBuilt g states program) where
   pub built_actions : HasActionParts g (program_items program)
   built_actions =
       let modules = module_forms g states (length g.start_nonterminals.entries) in
       let before = (front_forms g ++ modules) ++ token_forms g g.intern_token in
       record {
         before = before;
-        parts = program_parts g states program is_built by ∙ append_assoc before (action_forms g 0 g.action_fn_defns) (triple_lines g ∷ []);
+        parts = program_parts g states program is_built ∙ append_assoc before (action_forms g 0 g.action_fn_defns) (triple_lines g ∷ []);
         idle = idle-append (front_forms g ++ modules) (token_forms g g.intern_token) (idle-append (front_forms g) modules (front_idle g) (modules_idle g states (length g.start_nonterminals.entries))) (tokens_idle g g.intern_token);
         act = actions_act g 0 g.action_fn_defns;
       }
 
   -- items keep their locations where the grammar has a type of them
   pub built_located : (prefix : List ℕ) → (beginning (unmade prefix) (program_items program)).located ≡ is_some g.types.loc
-  built_located prefix = ap (λ (b : Beginning). b.located) (beginning_is g states program is_built by (unmade prefix))
+  built_located prefix = ap (λ (b : Beginning). b.located) (beginning_is g states program is_built (unmade prefix))

@@ -14,7 +14,7 @@ use Rattle.lp_composed.proofs.Settled.{parts_seen, seen}
 abbrev pub IsBlind : {A B : Type 0} → (A → Form → B) → Type 0
 IsBlind step = (a : _) (f : Form) → step a (seen f) ≡ step a f
 
-over_map : {S : Type 0} (step : S → Form → S) → IsBlind step → (s : S) (fs : List Form) → over step s (map seen fs) ≡ over step s fs
+pub over_map : {S : Type 0} (step : S → Form → S) → IsBlind step → (s : S) (fs : List Form) → over step s (map seen fs) ≡ over step s fs
 over_map step blind s [] = refl
 over_map step blind s (f ∷ fs) = ap (λ (t : _). over step t (map seen fs)) (blind s f) ∙ over_map step blind (step s f) fs
 

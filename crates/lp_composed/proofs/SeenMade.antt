@@ -1,5 +1,5 @@
 -- The whole code of a module doesn't depend on what can't be seen of its items and of the program.
-use Rattle.std.proofs.Common.{◌≡◌, ℕ, ◌||◌, Bool, true, false, if◌then◌else◌, List, [], ◌∷◌, length, map, Option, Some, None, option_map, slice_get, refl, sym, ap, ◌∙◌}
+use Rattle.std.proofs.Common.{◌≡◌, ℕ, Bool, true, false, if◌then◌else◌, List, [], ◌∷◌, length, map, Option, Some, None, option_map, slice_get, refl, ap, ◌∙◌}
 use Rattle.lp_core.specs.declared.expr.Function.{Function}
 use Rattle.lp_form.specs.declared.part.Part.TheVariants as part
 use Rattle.lp_view.specs.PartLists.{Form, is_a, hole_of, parts_of, first_that}
@@ -10,18 +10,18 @@ use Rattle.lp_bodies.specs.MachineMethods.{methods_of, with_methods}
 use Rattle.lp_bodies.specs.Reductions.{pop_function, reduce_fn, with_reduce_fn, reduce_function, with_reduce}
 use Rattle.lp_bodies.specs.Tables.{lookup_function, goto_function, integer_function, with_integers, symbol_function, with_symbols, expected_function, expected_closure, with_states_closure}
 use Rattle.lp_bodies.specs.Trials.{simulate_function}
+use Rattle.lp_ascent_bodies.specs.AscentStates.{state_fn, with_state_fn}
+use Rattle.lp_ascent_bodies.specs.AscentTrials.{ascent_simulate, ascent_accepts, ascent_expected, with_ascent_expected}
 use Rattle.lp_run.specs.Entered.{with_closure, sourced, with_source, with_parse, made_after, finished_module, Ready, module_made, ready_of}
 use Rattle.lp_run.specs.Functions.{Made, made_of, without_meaning, lookup_made, trial_made, expected_made, accepts_made, reduction_made, ascent_made, function_made, placed, one_made, all_made, action_made, actions_made}
 use Rattle.lp_run.specs.Named.{is_interned, parser_of}
-use Rattle.lp_run.specs.ParseMethod.{Parsing, Fields, fields_of, field_row, fields, parameter_row, header_names, parser_names, parameters_of, driving, called, parser_called, parse_made, parsing_of, By_driver}
+use Rattle.lp_run.specs.ParseMethod.{Parsing, Fields, fields_of, field_row, fields, parameter_row, header_names, parser_names, parameters_of, driving, driven_by, by_function, started, called, parser_called, parse_made, parsing_of, By_driver}
 use Rattle.lp_run.specs.Promised.{Beginning, Promising, is_action_lookup, is_lookup, is_trial, is_reduction, beginning, module_rows}
-use Rattle.lp_goto_slice.proofs.LinkGrows.{is_of_tables}
-use Rattle.lp_goto_slice.proofs.LinkModule.{IsDriven}
-use Rattle.lp_goto_slice.proofs.LinkPromises.{AreNoAscent, AreOfTables, promised_are}
 use Rattle.lp_composed.proofs.Seen.{IsBlind, hole_seen, is_seen, over_seen, part_seen_at, that_seen}
 use Rattle.lp_composed.proofs.SeenActions.{action_seen, with_action_seen}
 use Rattle.lp_composed.proofs.SeenModules.{beginning_seen, parser_seen, rows_seen, seen_beginning, seen_promise, seen_promising}
 use Rattle.lp_composed.proofs.SeenReductions.{methods_seen, pop_seen, reduce_fn_seen, reduce_seen, with_methods_seen, with_reduce_fn_seen, with_reduce_seen}
+use Rattle.lp_composed.proofs.SeenStates.{ascent_accepts_seen, ascent_simulate_seen, start_seen, state_fn_seen, with_state_fn_seen}
 use Rattle.lp_composed.proofs.SeenTables.{accepts_seen, expected_seen, goto_seen, integers_seen, lookup_seen, simulate_seen, symbols_seen, with_integers_seen, with_symbols_seen}
 use Rattle.lp_composed.proofs.Settled.{seen}
 
@@ -87,23 +87,27 @@ reduction_blind : (f : Form) → is_reduction (seen f) ≡ is_reduction f
 reduction_blind [] = refl
 reduction_blind (e ∷ es) = refl
 
-pub function_seen : (m : Making) (f : Form) → is_of_tables f ≡ true → function_made m (seen f) ≡ function_made m f
-unfolding function_made
-function_seen m f is =
-    ap (λ (b : Bool). if b then lookup_made m (seen f) else (if is_trial (seen f) then trial_made m (seen f) else (if is_reduction (seen f) then reduction_made m (seen f) else ascent_made m (seen f)))) (lookup_blind f)
-    ∙ ap (λ (b : Bool). if is_lookup f then lookup_made m (seen f) else (if b then trial_made m (seen f) else (if is_reduction (seen f) then reduction_made m (seen f) else ascent_made m (seen f)))) (trial_blind f)
-    ∙ ap (λ (b : Bool). if is_lookup f then lookup_made m (seen f) else (if is_trial f then trial_made m (seen f) else (if b then reduction_made m (seen f) else ascent_made m (seen f)))) (reduction_blind f)
-    ∙ by (is_lookup f) (is_trial f) (is_reduction f) is
-  where
-    by : (a b c : Bool) → (a || (b || c)) ≡ true → (if a then lookup_made m (seen f) else (if b then trial_made m (seen f) else (if c then reduction_made m (seen f) else ascent_made m (seen f)))) ≡ (if a then lookup_made m f else (if b then trial_made m f else (if c then reduction_made m f else ascent_made m f)))
-    by true b c h = lookup_made_seen m f
-    by false true c h = trial_made_seen m f
-    by false false true h = reduction_made_seen m f
-    by false false false h = absurd cc
+-- a function of recursive ascent
+ascent_made_seen : (m : Making) (f : Form) → ascent_made m (seen f) ≡ ascent_made m f
+ascent_made_seen m f =
+    let g = seen f in
+    both (is_a part.StateFn f) (is_a part.StateFn g) (made_of (state_fn m f) (with_state_fn f m)) _ (made_of (state_fn m g) (with_state_fn g m)) _ (is_seen part.StateFn f)
+    (made_both (state_fn m f) (state_fn m g) (with_state_fn f m) (with_state_fn g m) (state_fn_seen m f) (with_state_fn_seen m f))
+    (both (is_a part.AscentSimulate f) (is_a part.AscentSimulate g) (made_of (ascent_simulate f) m) _ (made_of (ascent_simulate g) m) _ (is_seen part.AscentSimulate f) (ap (λ (x : Function). made_of x m) (ascent_simulate_seen f))
+    (both (is_a part.AscentAccepts f) (is_a part.AscentAccepts g) (made_of (ascent_accepts m f) m) (made_of (ascent_expected m) (with_ascent_expected m)) (made_of (ascent_accepts m g) m) (made_of (ascent_expected m) (with_ascent_expected m)) (is_seen part.AscentAccepts f)
+    (ap (λ (x : Function). made_of x m) (ascent_accepts_seen m f)) refl))
 
-pub all_seen : (m : Making) (rs : List (ℕ × Form)) → AreOfTables rs → all_made m (map seen_promise rs) ≡ all_made m rs
-all_seen m [] are = refl
-all_seen m (r ∷ rs) are = ap (λ (d : Made). all_made (placed r.0 d) (map seen_promise rs)) (function_seen m r.1 are.0) ∙ all_seen (one_made m r) rs are.1
+pub function_seen : (m : Making) (f : Form) → function_made m (seen f) ≡ function_made m f
+unfolding function_made
+function_seen m f =
+    let g = seen f in
+    both (is_lookup f) (is_lookup g) (lookup_made m f) _ (lookup_made m g) _ (lookup_blind f) (lookup_made_seen m f)
+    (both (is_trial f) (is_trial g) (trial_made m f) _ (trial_made m g) _ (trial_blind f) (trial_made_seen m f)
+    (both (is_reduction f) (is_reduction g) (reduction_made m f) (ascent_made m f) (reduction_made m g) (ascent_made m g) (reduction_blind f) (reduction_made_seen m f) (ascent_made_seen m f)))
+
+pub all_seen : (m : Making) (rs : List (ℕ × Form)) → all_made m (map seen_promise rs) ≡ all_made m rs
+all_seen m [] = refl
+all_seen m (r ∷ rs) = ap (λ (d : Made). all_made (placed r.0 d) (map seen_promise rs)) (function_seen m r.1) ∙ all_seen (one_made m r) rs
 
 pub actions_seen : (m : Making) (rs : List (ℕ × Form)) → actions_made m (map seen_promise rs) ≡ actions_made m rs
 actions_seen m [] = refl
@@ -137,27 +141,35 @@ field_blind names f (e ∷ es) = refl
 fields_seen : (names : Names) (form : Form) → fields names (seen form) ≡ fields names form
 fields_seen names form = over_seen (field_row names) (field_blind names) (fields_of [] no_names) form
 
-driving_seen : (m : Making) (f : Fields) (machine : Form) → driving m f (Some (seen machine)) ≡ driving m f (Some machine)
-driving_seen m f machine =
+driving_seen : (m : Making) (f : Fields) (o : Option Form) → driving m f (option_map seen o) ≡ driving m f o
+driving_seen m f None = refl
+driving_seen m f (Some machine) =
     let ms = seen machine in
     ap (λ (x : _). parsing_of (By_driver x f.numbers) (with_methods ms f.names (length f.numbers) m)) (methods_seen machine f.names (length f.numbers) m)
     ∙ ap (parsing_of (By_driver (methods_of machine f.names (length f.numbers) m) f.numbers)) (with_methods_seen machine f.names (length f.numbers) m)
 
-module _ (items : Form) (d : IsDriven items) where
-  parse_is : (m : Making) (names : Names) → parse_made m items names ≡ driving m (fields names d.drive) (Some d.machine)
-  unfolding parse_made
-  parse_is m names = ap (parser_called m items names) d.is_parser ∙ ap (called m items names d.parser) d.is_drive ∙ ap (driving m (fields names d.drive)) d.is_machine
+driven_seen : (m : Making) (items : Form) (names : Names) (drive : Form) → driven_by m (seen items) names (seen drive) ≡ driven_by m items names drive
+driven_seen m items names drive =
+    ap (λ (f : Fields). driving m f (first_that (is_a part.MachineImpl) (parts_of (seen items)))) (fields_seen names drive)
+    ∙ ap (driving m (fields names drive)) (that_seen (is_a part.MachineImpl) (is_seen part.MachineImpl) items)
+    ∙ driving_seen m (fields names drive) (first_that (is_a part.MachineImpl) (parts_of items))
 
-  seen_parse_is : (m : Making) (names : Names) → parse_made m (seen items) names ≡ driving m (fields names (seen d.drive)) (Some (seen d.machine))
-  unfolding parse_made
-  seen_parse_is m names =
-      ap (parser_called m (seen items) names) (parser_seen items ∙ ap (option_map seen) d.is_parser)
-      ∙ ap (called m (seen items) names (seen d.parser)) (that_seen (is_a part.Drive) (is_seen part.Drive) d.parser ∙ ap (option_map seen) d.is_drive)
-      ∙ ap (driving m (fields names (seen d.drive))) (that_seen (is_a part.MachineImpl) (is_seen part.MachineImpl) items ∙ ap (option_map seen) d.is_machine)
+started_seen : (m : Making) (names : Names) (o : Option Form) → started m names (option_map seen o) ≡ started m names o
+started_seen m names None = refl
+started_seen m names (Some form) = ap (by_function names.next) (start_seen m names form)
 
-  pub parse_seen : (m : Making) (names : Names) → parse_made m (seen items) names ≡ parse_made m items names
-  parse_seen m names =
-      seen_parse_is m names ∙ ap (λ (f : Fields). driving m f (Some (seen d.machine))) (fields_seen names d.drive) ∙ driving_seen m (fields names d.drive) d.machine ∙ sym (parse_is m names)
+called_seen : (m : Making) (items : Form) (names : Names) (form : Form) (o : Option Form) → called m (seen items) names (seen form) (option_map seen o) ≡ called m items names form o
+called_seen m items names form None = ap (started m names) (that_seen (is_a part.Start) (is_seen part.Start) form) ∙ started_seen m names (first_that (is_a part.Start) (parts_of form))
+called_seen m items names form (Some drive) = driven_seen m items names drive
+
+parser_called_seen : (m : Making) (items : Form) (names : Names) (o : Option Form) → parser_called m (seen items) names (option_map seen o) ≡ parser_called m items names o
+parser_called_seen m items names None = refl
+parser_called_seen m items names (Some form) =
+    ap (called m (seen items) names (seen form)) (that_seen (is_a part.Drive) (is_seen part.Drive) form) ∙ called_seen m items names form (first_that (is_a part.Drive) (parts_of form))
+
+pub parse_seen : (m : Making) (items : Form) (names : Names) → parse_made m (seen items) names ≡ parse_made m items names
+unfolding parse_made
+parse_seen m items names = ap (parser_called m (seen items) names) (parser_seen items) ∙ parser_called_seen m items names (parser_of items)
 
 -- ---- the module
 interned_blind : (f : Form) → is_interned (seen f) ≡ is_interned f
@@ -174,24 +186,22 @@ source_seen items located m = ap (sourced located m) (parser_seen items) ∙ sou
 abbrev ready : Parsing → Making → Ready
 ready p m = ready_of m.item_closure p
 
-module _ (items : Form) (d : IsDriven items) (plain : AreNoAscent (parts_of items)) where
-  after_seen : (names : Names) (b : Beginning) → made_after (seen items) names (seen_beginning b) ≡ made_after items names b
-  unfolding made_after
-  after_seen names b =
-      let m = with_source items b.located b.actions.made in
-      let s = module_rows m items in
-      let start : module_rows (with_source (seen items) b.located b.actions.made) (seen items) ≡ seen_promising s = ap (λ (n : Making). module_rows n (seen items)) (source_seen items b.located b.actions.made) ∙ rows_seen m items in
-      let of_tables : AreOfTables s.promises = promised_are m (parts_of items) plain in
-      ap (λ (t : Promising). with_parse (seen items) names (actions_made (all_made t.made t.promises) (map seen_promise b.actions.promises))) start
-      ∙ ap (λ (n : Making). with_parse (seen items) names (actions_made n (map seen_promise b.actions.promises))) (all_seen s.made s.promises of_tables)
-      ∙ ap (λ (n : Making). with_parse (seen items) names n) (actions_seen (all_made s.made s.promises) b.actions.promises)
-      ∙ ap (λ (p : Parsing). ready p (actions_made (all_made s.made s.promises) b.actions.promises)) (parse_seen items d (actions_made (all_made s.made s.promises) b.actions.promises) names)
+after_seen : (items : Form) (names : Names) (b : Beginning) → made_after (seen items) names (seen_beginning b) ≡ made_after items names b
+unfolding made_after
+after_seen items names b =
+    let m = with_source items b.located b.actions.made in
+    let s = module_rows m items in
+    let start : module_rows (with_source (seen items) b.located b.actions.made) (seen items) ≡ seen_promising s = ap (λ (n : Making). module_rows n (seen items)) (source_seen items b.located b.actions.made) ∙ rows_seen m items in
+    ap (λ (t : Promising). with_parse (seen items) names (actions_made (all_made t.made t.promises) (map seen_promise b.actions.promises))) start
+    ∙ ap (λ (n : Making). with_parse (seen items) names (actions_made n (map seen_promise b.actions.promises))) (all_seen s.made s.promises)
+    ∙ ap (λ (n : Making). with_parse (seen items) names n) (actions_seen (all_made s.made s.promises) b.actions.promises)
+    ∙ ap (λ (p : Parsing). ready p (actions_made (all_made s.made s.promises) b.actions.promises)) (parse_seen (actions_made (all_made s.made s.promises) b.actions.promises) items names)
 
-  -- the code of items, in a program
-  pub module_seen : (prefix : List ℕ) (program : Form) → module_made prefix (seen program) (seen items) ≡ module_made prefix program items
-  unfolding module_made
-  module_seen prefix program =
-      let b = beginning (unmade prefix) program in
-      ap (λ (x : Beginning). finished_module (parameters_of prefix (seen items)).next x.located (made_after (seen items) (parameters_of prefix (seen items)) x)) (beginning_seen (unmade prefix) program)
-      ∙ ap (λ (names : Names). finished_module names.next b.located (made_after (seen items) names (seen_beginning b))) (parameters_of_seen prefix items)
-      ∙ ap (finished_module (parameters_of prefix items).next b.located) (after_seen (parameters_of prefix items) b)
+-- the code of items, in a program
+pub module_seen : (prefix : List ℕ) (program items : Form) → module_made prefix (seen program) (seen items) ≡ module_made prefix program items
+unfolding module_made
+module_seen prefix program items =
+    let b = beginning (unmade prefix) program in
+    ap (λ (x : Beginning). finished_module (parameters_of prefix (seen items)).next x.located (made_after (seen items) (parameters_of prefix (seen items)) x)) (beginning_seen (unmade prefix) program)
+    ∙ ap (λ (names : Names). finished_module names.next b.located (made_after (seen items) names (seen_beginning b))) (parameters_of_seen prefix items)
+    ∙ ap (finished_module (parameters_of prefix items).next b.located) (after_seen items (parameters_of prefix items) b)

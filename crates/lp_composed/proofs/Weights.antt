@@ -1,59 +1,47 @@
--- How much a built program weighs: at least its fixed forms, the symbols of all productions, and those of all inlined actions.
-use Rattle.std.proofs.Common.{◌≡◌, ◌⊎◌, inl, inr, ℕ, zero, suc, ◌+◌, ◌*◌, ◌<◌, ◌≤◌, ◌==◌, Bool, true, false, if◌then◌else◌, List, [], ◌∷◌, ◌++◌, length, map, decimal, Option, Some, None, slice_get, refl, sym, ap, ◌∙◌, subst, arith, length-append}
+-- How much the module of a start by tables weighs: at least its fixed forms and the symbols of all productions; and how much the functions of actions weigh.
+use Rattle.std.proofs.Common.{◌≡◌, ℕ, zero, suc, ◌+◌, ◌≤◌, ◌==◌, Bool, true, false, if◌then◌else◌, List, [], ◌∷◌, ◌++◌, length, decimal, Some, slice_get, refl, ap, arith, length-append}
 use Rattle.std.specs.List.{flat_map}
-use Rattle.std.proofs.lemmas.Bool.{cases_Bool, eqb-true, eqb-false}
 use Rattle.std.proofs.lemmas.List.{length-map}
-use Rattle.std.proofs.lemmas.Option.{same_Some, slice_get_within}
+use Rattle.std.proofs.lemmas.Option.{same_Some}
 use Rattle.lp_form.specs.Forms.{form_of, is_element_of}
 use Rattle.lp_form.specs.declared.part.Part.{Part}
 use Rattle.lp_form.specs.declared.part.Part.TheVariants as part
 use Rattle.lp_repr.specs.Numbering.{productions_of, terminals_of}
 use Rattle.lp_repr.specs.declared.lr1.Lr1State.{Lr1State}
-use Rattle.lp_repr.specs.declared.lr1.StartStates.{StartStates}
 use Rattle.lp_repr.specs.declared.repr.ActionFnDefn.{ActionFnDefn}
 use Rattle.lp_repr.specs.declared.repr.ActionFnDefnKind.{ActionFnDefnKind}
 use Rattle.lp_repr.specs.declared.repr.ActionFnDefnKind.TheVariants.{User, Lookaround, Inline}
 use Rattle.lp_repr.specs.declared.repr.Grammar.{Grammar}
 use Rattle.lp_repr.specs.declared.repr.InlinedSymbol.{InlinedSymbol}
-use Rattle.lp_repr.specs.declared.repr.NonterminalString.{NonterminalString}
 use Rattle.lp_repr.specs.declared.repr.Production.{Production}
-use Rattle.lp_tree.specs.ProgramTree.{Item, leaf, program_items}
-use Rattle.lp_tree.specs.declared.tree.Program.{Program}
+use Rattle.lp_tree.specs.ProgramTree.{Item, leaf}
 use Rattle.lp_build.specs.Built as built
 use Rattle.lp_build.specs.Built.{row, text_rows}
 use Rattle.lp_build.specs.Functions.{parser_part}
-use Rattle.lp_build.specs.Frame.{triple_part}
-use Rattle.lp_build.specs.declared.frame.Triples.{Triples}
-use Rattle.lp_build.specs.declared.frame.Triples.TheVariants.{Located, Plain}
 use Rattle.lp_build.specs.Reductions.{assert_lines, call_of, outcome_of, pop_lines, span_of}
 use Rattle.lp_build.specs.declared.functions.FunctionName.{FunctionName}
 use Rattle.lp_build.specs.declared.functions.FunctionName.TheVariants as name
-use Rattle.lp_view.specs.PartLists.{Form}
-use Rattle.lp_view.specs.Weights.{own_weight, weight}
-use Rattle.lp_write.specs.declared.rust.Options.{Options}
-use Rattle.lp_agrees.specs.Emission.{IsAsPrinted, IsByTables}
+use Rattle.lp_view.specs.Weights.{own_weight}
 use Rattle.lp_actions.specs.ActionFunctions.{action_lines, has_parameters, kind_lines, kind_part}
 use Rattle.lp_actions.specs.Inlines.{calls_from, inlined_count, outer_arguments, outer_call, outer_from, spans_from, total_width, type_arguments}
 use Rattle.lp_actions.specs.Parameters.{width}
-use Rattle.lp_assembly.specs.Built.{IsBuilt, implementations, joined_clauses, triple_lines}
 use Rattle.lp_table.specs.BuiltTable.{built_table, table_items, with_machine, with_tables}
 use Rattle.lp_table.specs.FrameLines.{inner_uses, is_interned, module_parts, parse_header, parser_parts, source_lines, table_parser, token_use_lines, use_lines}
 use Rattle.lp_table.specs.Headers.{header_lines, names_of}
 use Rattle.lp_table.specs.MachineLines.{acceptance, definition, drive_call, expected_list, implementation, phantom_text, simulated_from, simulation, symbol_values}
 use Rattle.lp_table.specs.ReductionLines.{action_arguments, arms_from, functions_from, if_called, is_called, own_function, own_header, pop_functions, produced_of, reduce_function, reduce_functions, reduce_header, reduction_arm, reduction_body, symbol_variant, symbol_variants}
-use Rattle.lp_table.specs.Starts.{Start, is_fallible, start_for, state_text}
+use Rattle.lp_table.specs.Starts.{Start, is_fallible, state_text}
 use Rattle.lp_table.specs.TableLines.{action_lookup, action_table, end_table, expected_lines, goto_function, terminal_lines, terminal_names}
 use Rattle.lp_table.specs.TokenLines.{integer_rows, symbols_header, token_numbers, token_symbols}
 use Rattle.lp_parts.specs.Texts.{generic_names_text}
-use Rattle.lp_goto_slice.proofs.Whole.{flat, flat-append}
+use Rattle.lp_goto_slice.proofs.Whole.{flat}
 use Rattle.lp_composed.proofs.CodedActions.{action_header}
-use Rattle.lp_composed.proofs.Counting.{and_more, cost_less, counted, counted-append, in_behind, in_front, read_weighs, rows_counted}
-use Rattle.lp_composed.proofs.Modules.{module_forms, reexport_form, start_forms}
-use Rattle.lp_composed.proofs.Programs.{action_forms, attribute_form, front_forms, program_flat, program_forms, token_forms, use_form}
+use Rattle.lp_composed.proofs.Counting.{and_more, counted, counted-append, in_behind, in_front, rows_counted}
+use Rattle.lp_composed.proofs.Programs.{action_forms}
 
 -- ---- forms of a module
 -- a header counts
-header_counts : (n : FunctionName) (generics params : List (List ℕ)) (answer : List ℕ) (clauses : List (List ℕ)) → 1 ≤ counted (header_lines n generics params answer clauses)
+pub header_counts : (n : FunctionName) (generics params : List (List ℕ)) (answer : List ℕ) (clauses : List (List ℕ)) → 1 ≤ counted (header_lines n generics params answer clauses)
 unfolding header_lines form_of is_element_of
 header_counts (name.Parse visibility) generics params answer clauses = omega arith
 header_counts name.ExpectedTokensFromStates generics params answer clauses = omega arith
@@ -78,11 +66,11 @@ module _ (g : Grammar) (states : List Lr1State) (st : Start) where
   unfolding symbol_values form_of is_element_of
   symbols_count = omega arith
 
-  action_table_counts : 1 ≤ counted (action_table g states)
+  pub action_table_counts : 1 ≤ counted (action_table g states)
   unfolding action_table form_of is_element_of
   action_table_counts = omega arith
 
-  lookup_counts : 1 ≤ counted (action_lookup g states)
+  pub lookup_counts : 1 ≤ counted (action_lookup g states)
   unfolding action_lookup form_of is_element_of
   lookup_counts = by (length (terminals_of g) == 1)
     where
@@ -94,11 +82,11 @@ module _ (g : Grammar) (states : List Lr1State) (st : Start) where
   unfolding end_table form_of is_element_of
   end_table_counts = omega arith
 
-  goto_counts : 1 ≤ counted (goto_function g states)
+  pub goto_counts : 1 ≤ counted (goto_function g states)
   unfolding goto_function form_of is_element_of
   goto_counts = omega arith
 
-  terminals_count : 1 ≤ counted (terminal_names g)
+  pub terminals_count : 1 ≤ counted (terminal_names g)
   unfolding terminal_lines form_of is_element_of
   terminals_count = omega arith
 
@@ -134,11 +122,11 @@ module _ (g : Grammar) (states : List Lr1State) (st : Start) where
   unfolding acceptance form_of is_element_of
   acceptance_counts = over_alone part.Accepts (phantom_text g ∷ []) _ refl (header_counts name.Accepts _ _ _ _)
 
-  parse_header_counts : 1 ≤ counted (parse_header g st)
+  pub parse_header_counts : 1 ≤ counted (parse_header g st)
   unfolding parse_header
   parse_header_counts = header_counts (name.Parse st.visibility) _ _ _ _
 
-  source_counts : 1 ≤ counted (source_lines g)
+  pub source_counts : 1 ≤ counted (source_lines g)
   unfolding source_lines form_of is_element_of
   source_counts = by (is_interned g)
     where
@@ -263,12 +251,12 @@ module _ (g : Grammar) (states : List Lr1State) (st : Start) where
       let symbols = productions_count g st 0 (productions_of g) in
       omega (arith, all, symbols, functions_are)
 
-  token_use_counts : (b : Bool) → 1 ≤ counted (leaf (if b then part.TokenUseInterned else part.TokenUsePlain) [])
+  pub token_use_counts : (b : Bool) → 1 ≤ counted (leaf (if b then part.TokenUseInterned else part.TokenUsePlain) [])
   unfolding form_of is_element_of
   token_use_counts true = omega arith
   token_use_counts false = omega arith
 
-  uses_count : 1 ≤ counted (inner_uses g)
+  pub uses_count : 1 ≤ counted (inner_uses g)
   unfolding inner_uses form_of is_element_of
   uses_count = in_behind 1 (flat_map use_lines g.uses) (leaf part.StandardUses []) (omega arith)
 
@@ -338,77 +326,6 @@ module _ (g : Grammar) where
   pub actions_count : (n : ℕ) (actions : List ActionFnDefn) → steps_of_actions actions ≤ counted (flat (action_forms g n actions))
   actions_count n [] = omega arith
   actions_count n (a ∷ rest) = and_more (2 + inlined_symbols a.kind) (steps_of_actions rest) (action_lines g n a) (flat (action_forms g (n + 1) rest)) (action_counts n a) (actions_count (n + 1) rest)
-
--- ---- the program
-flat_count : (fs gs : List Form) → counted (flat (fs ++ gs)) ≡ counted (flat fs) + counted (flat gs)
-flat_count fs gs = ap counted (flat-append fs gs) ∙ counted-append (flat fs) (flat gs)
-
-module _ (g : Grammar) (states : List StartStates) (i : ℕ) (names : NonterminalString × NonterminalString) (list : StartStates) (at : slice_get g.start_nonterminals.entries i ≡ Some names) (has : slice_get states i ≡ Some list) where
-  start_counts : 30 + symbols_of (productions_of g) ≤ counted (flat (start_forms g (slice_get g.start_nonterminals.entries i) (slice_get states i)))
-  unfolding form_of is_element_of
-  start_counts =
-      let own = built_table g list.states (start_for g names.0 names.1) in
-      let here : 30 + symbols_of (productions_of g) ≤ counted (flat (start_forms g (Some names) (Some list))) =
-      (let e = and_more (29 + symbols_of (productions_of g)) 1 own (reexport_form g names ++ []) (module_counts g list.states (start_for g names.0 names.1)) (omega arith) in omega (arith, e)) in
-      subst (λ (o : Option (NonterminalString × NonterminalString)). 30 + symbols_of (productions_of g) ≤ counted (flat (start_forms g o (slice_get states i)))) (sym at)
-      (subst (λ (o : Option StartStates). 30 + symbols_of (productions_of g) ≤ counted (flat (start_forms g (Some names) o))) (sym has) here)
-
-  modules_count : (n : ℕ) → i < n → 30 + symbols_of (productions_of g) ≤ counted (flat (module_forms g states n))
-  modules_count zero l = absurd (omega (arith, l))
-  modules_count (suc n) l = by (modules_count n) (cases_Bool (i == n))
-    where
-      by : (i < n → 30 + symbols_of (productions_of g) ≤ counted (flat (module_forms g states n))) → ((i == n) ≡ true) ⊎ ((i == n) ≡ false) → 30 + symbols_of (productions_of g) ≤ counted (flat (module_forms g states (suc n)))
-      by earlier (inl same) =
-          let m : i ≡ n = eqb-true i n same in
-          let last : 30 + symbols_of (productions_of g) ≤ counted (flat (start_forms g (slice_get g.start_nonterminals.entries n) (slice_get states n))) =
-          subst (λ (k : ℕ). 30 + symbols_of (productions_of g) ≤ counted (flat (start_forms g (slice_get g.start_nonterminals.entries k) (slice_get states k)))) m start_counts in
-          (let e = flat_count (module_forms g states n) (start_forms g (slice_get g.start_nonterminals.entries n) (slice_get states n)) in omega (arith, e, last))
-      by earlier (inr other) =
-          let m : (i ≡ n → ⊥) = eqb-false i n other in
-          let more = earlier (omega (arith, m, l)) in
-          (let e = flat_count (module_forms g states n) (start_forms g (slice_get g.start_nonterminals.entries n) (slice_get states n)) in omega (arith, e, more))
-
-  front_counts : 1 ≤ counted (flat (front_forms g))
-  unfolding form_of is_element_of
-  front_counts = (let e = flat_count (map attribute_form g.module_attributes ++ map use_form g.uses) (leaf part.StandardUses [] ∷ []) in omega (arith, e))
-
-  triple_part_counts : (clauses : Option (List ℕ)) (triples : Triples) → own_weight (triple_part clauses triples) ≡ 1
-  unfolding form_of is_element_of
-  triple_part_counts None (Located t e) = refl
-  triple_part_counts (Some c) (Located t e) = refl
-  triple_part_counts None (Plain t e) = refl
-  triple_part_counts (Some c) (Plain t e) = refl
-
-  triple_counts : 1 ≤ counted (flat (triple_lines g ∷ []))
-  triple_counts = (let e = triple_part_counts (joined_clauses g.where_clauses) (implementations g g.types.loc) in omega (arith, e))
-
-  program_counts : own_weight part.Program ≡ 1
-  unfolding form_of is_element_of
-  program_counts = refl
-
-  -- a program that is built with a module has so many parts that count
-  pub built_counts : (program : Program) → IsBuilt g states program → IsByTables g.algorithm.codegen → 33 + symbols_of (productions_of g) + steps_of_actions g.action_fn_defns ≤ counted (program_items program)
-  built_counts program is_built by =
-      let n = length g.start_nonterminals.entries in
-      let modules = module_forms g states n in
-      let tokens = token_forms g g.intern_token in
-      let actions = action_forms g 0 g.action_fn_defns in
-      let a = modules_count n (slice_get_within g.start_nonterminals.entries i names at) in
-      let b = actions_count g 0 g.action_fn_defns in
-      let c = flat_count (front_forms g) modules in
-      let d = flat_count (front_forms g ++ modules) tokens in
-      let e = flat_count ((front_forms g ++ modules) ++ tokens) actions in
-      let f = flat_count (((front_forms g ++ modules) ++ tokens) ++ actions) (triple_lines g ∷ []) in
-      let whole : counted (program_items program) ≡ own_weight part.Program + counted (flat (program_forms g states)) = ap counted (program_flat g states program is_built by) in
-      omega (arith, a, b, c, d, e, f, whole, front_counts, triple_counts, program_counts)
-
-  -- so much does it weigh as it is read
-  pub read_weight : (options : Options) (printed read : Program) → IsBuilt g states printed → IsByTables g.algorithm.codegen → IsAsPrinted options printed read → 33 + symbols_of (productions_of g) + steps_of_actions g.action_fn_defns ≤ weight read
-  read_weight options printed read is_built by is = (let a = built_counts printed is_built by in let b = read_weighs options printed read is in omega (arith, a, b))
-
-  -- a cost that is at most the weight is less than the ninth part of its square
-  pub cost_fits : (cost : ℕ) (options : Options) (printed read : Program) → IsBuilt g states printed → IsByTables g.algorithm.codegen → IsAsPrinted options printed read → cost ≤ weight read → 9 * cost < weight read * weight read
-  cost_fits cost options printed read is_built by is few = cost_less cost (weight read) few (let h = read_weight options printed read is_built by is in omega (arith, h))
 
 -- a production has no more symbols than all have together
 pub symbols_within : (ps : List Production) (k : ℕ) (p : Production) → slice_get ps k ≡ Some p → length p.symbols ≤ symbols_of ps

@@ -79,7 +79,7 @@ no_name : (t : TerminalString) → is_error t ≡ true → terminal_name t ≡ [
 no_name t e = ap terminal_name (the_error t e)
 
 -- the printed names are those of the machine
-names_are : (g : Grammar) (ts : List TerminalString) → ((k : ℕ) (t : TerminalString) → slice_get ts k ≡ Some t → is_error t ≡ false → IsKnown g t) → flat_map terminal_name ts ≡ map (λ (k : KnownTerminal). k.name) (known_among g ts)
+pub names_are : (g : Grammar) (ts : List TerminalString) → ((k : ℕ) (t : TerminalString) → slice_get ts k ≡ Some t → is_error t ≡ false → IsKnown g t) → flat_map terminal_name ts ≡ map (λ (k : KnownTerminal). k.name) (known_among g ts)
 names_are g [] known = refl
 names_are g (t ∷ ts) known = flat_map-cons terminal_name t ts ∙ by (is_error t) refl (names_are g ts (λ k. known (suc k)))
   where

@@ -1,5 +1,5 @@
 -- A built program has the functions of its grammar's actions, and its texts are plain.
-use Rattle.std.proofs.Common.{◌≡◌, ℕ, ◌+◌, ◌<◌, Bool, true, false, Option, None, List, [], ◌∷◌, ◌++◌, length, Some, slice_get, refl, sym, ap, ◌∙◌}
+use Rattle.std.proofs.Common.{◌≡◌, ℕ, ◌+◌, ◌<◌, Bool, true, false, Option, None, List, [], ◌∷◌, length, Some, refl}
 use Rattle.std.specs.List.{list_all}
 use Rattle.lp_repr.specs.declared.lr1.StartStates.{StartStates}
 use Rattle.lp_repr.specs.declared.repr.ActionFnDefn.{ActionFnDefn}
@@ -7,11 +7,10 @@ use Rattle.lp_repr.specs.declared.repr.ActionFnDefnKind.{ActionFnDefnKind}
 use Rattle.lp_repr.specs.declared.repr.ActionFnDefnKind.TheVariants.{User, Lookaround, Inline}
 use Rattle.lp_repr.specs.declared.repr.LookaroundActionFn.TheVariants.{Lookahead, Lookbehind}
 use Rattle.lp_repr.specs.declared.repr.Grammar.{Grammar}
-use Rattle.lp_repr.specs.declared.repr.Parameter.{Parameter}
 use Rattle.lp_tree.specs.ProgramTree.{leaf, program_items}
 use Rattle.lp_tree.specs.declared.tree.Program.{Program}
 use Rattle.lp_view.specs.PartLists.{Form}
-use Rattle.lp_actions.specs.ActionFunctions.{action_lines, kind_lines}
+use Rattle.lp_actions.specs.ActionFunctions.{kind_lines}
 use Rattle.lp_assembly.specs.Built.{IsBuilt, implementations, joined_clauses, triple_lines}
 use Rattle.lp_build.specs.Frame.{triple_part}
 use Rattle.lp_build.specs.declared.frame.Triples.{Triples}
@@ -22,15 +21,12 @@ use Rattle.lp_goto_slice.proofs.LinkHeaders.{IsWordy}
 use Rattle.lp_action_answers.specs.Forms as own
 use Rattle.lp_action_answers.specs.Forms.{HasForms}
 use Rattle.lp_action_answers.specs.Stands.{IsBody}
-use Rattle.lp_action_answers.proofs.Parameters as parameters
 use Rattle.lp_action_answers.proofs.Texts as texts
 use Rattle.lp_composed.proofs.Beginnings.{AreActions, AreIdle}
 use Rattle.lp_composed.proofs.CodedActions.{action_parts}
 use Rattle.lp_composed.proofs.Names.{IsPlainName, words_lack}
-use Rattle.lp_composed.proofs.Parameters.{ArePlain}
 use Rattle.lp_composed.proofs.Programs.{action_forms}
 use Rattle.lp_composed.proofs.Promises.{HasActionParts, built_actions}
-use Rattle.lp_agrees.specs.Emission.{IsByTables}
 
 none_idle : (fs : List Form) → AreIdle fs → own.AreNone fs
 none_idle [] are = tt
@@ -58,9 +54,9 @@ triple_none g = by (joined_clauses g.where_clauses) (implementations g g.types.l
     by (Some c) (Plain t e) = refl
     by None (Plain t e) = refl
 
-pub has_forms : (g : Grammar) (states : List StartStates) (program : Program) → IsBuilt g states program → IsByTables g.algorithm.codegen → HasForms g (program_items program)
-has_forms g states program is_built by =
-    let h : HasActionParts g (program_items program) = built_actions g states program is_built by in
+pub has_forms : (g : Grammar) (states : List StartStates) (program : Program) → IsBuilt g states program → HasForms g (program_items program)
+has_forms g states program is_built =
+    let h : HasActionParts g (program_items program) = built_actions g states program is_built in
     record {
       before = h.before;
       forms = action_forms g 0 g.action_fn_defns;

@@ -1,5 +1,5 @@
 -- What a question costs is small beside the symbols of productions and of inlined actions.
-use Rattle.std.proofs.Common.{◌≡◌, ℕ, ◌+◌, ◌*◌, ◌≤◌, max, List, [], ◌∷◌, length, arith}
+use Rattle.std.proofs.Common.{◌+◌, ◌≤◌, List, [], ◌∷◌, arith}
 use Rattle.std.proofs.lemmas.List.Sums.{sum_by-cons}
 use Rattle.lp_repr.specs.Numbering.{productions_of}
 use Rattle.lp_repr.specs.declared.repr.ActionFnDefn.{ActionFnDefn}
@@ -21,7 +21,7 @@ size_within (User patterns types code) = omega arith
 size_within (Lookaround place) = omega arith
 size_within (Inline outer symbols) = omega arith
 
-sizes_within : (actions : List ActionFnDefn) → actions_size actions ≤ steps_of_actions actions
+pub sizes_within : (actions : List ActionFnDefn) → actions_size actions ≤ steps_of_actions actions
 sizes_within [] = omega arith
 sizes_within (a ∷ actions) =
     let e = sum_by-cons (λ (x : ActionFnDefn). size_of x.kind) a actions in

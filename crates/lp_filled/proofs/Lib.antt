@@ -7,3 +7,4 @@ pub mod Parameters
 pub mod Production
 pub mod Whole
 pub mod Emission
+pub mod Composition

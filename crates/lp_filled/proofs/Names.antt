@@ -7,7 +7,6 @@ use Rattle.lp_repr.specs.declared.lr1.StartStates.{StartStates}
 use Rattle.lp_repr.specs.declared.repr.Grammar.{Grammar}
 use Rattle.lp_repr.specs.declared.repr.Parameter.{Parameter}
 use Rattle.lp_tree.specs.declared.tree.Program.{Program}
-use Rattle.lp_program.specs.Reads.{is_prefix}
 use Rattle.lp_spelling.specs.HoleEnds.{is_word}
 use Rattle.lp_found.proofs.Words.{prefix_words}
 use Rattle.lp_texts.specs.Identifiers.{is_identifier}

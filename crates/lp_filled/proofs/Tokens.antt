@@ -1,5 +1,5 @@
 -- The built module answers the questions about items and the numbers of tokens by the tables.
-use Rattle.std.proofs.Common.{◌≡◌, ℕ, ◌<◌, ◌≤◌, ◌^◌, false, true, List, length, map, All, Option, Some, is_some, refl, sym, ap, ◌∙◌, arith}
+use Rattle.std.proofs.Common.{◌≡◌, ℕ, ◌<◌, ◌≤◌, ◌^◌, true, List, length, map, All, Option, Some, refl, arith}
 use Rattle.std.specs.List.{list_all}
 use Rattle.lp_repr.specs.Numbering.{terminals_of}
 use Rattle.lp_repr.specs.ValidTables.{IsValidTables}
@@ -39,9 +39,8 @@ use Rattle.lp_composed.proofs.Promises.{built_located}
 use Rattle.lp_composed.proofs.Runs.{asked_on, built_module, own_methods, runs_built}
 use Rattle.lp_composed.proofs.Told.{IsKnown}
 use Rattle.lp_composed.proofs.TwoStates.{two_states}
-use Rattle.lp_agrees.specs.Emission.{IsByTables}
 
-module _ (g : Grammar) (all_states : List StartStates) (program : Program) (is_built : IsBuilt g all_states program) (by : IsByTables g.algorithm.codegen) (start : ℕ) (states : List Lr1State) (st : Start)
+module _ (g : Grammar) (all_states : List StartStates) (program : Program) (is_built : IsBuilt g all_states program) (start : ℕ) (states : List Lr1State) (st : Start)
     (valid : IsValidGrammar g) (tabled : IsValidTables g start states) (begins : start < length g.start_nonterminals.entries) (words : list_all is_word g.prefix ≡ true)
     (items : List RunItem) (params : List Text) (failing : List ℕ) (cost : ℕ) (enough : 3 ≤ cost) (tables : List Table) (same : map entries_of tables ≡ (built_module g.prefix (program_items program) g states st).tables) (all : All IsCounted tables) where
   abbrev asked : Asking
@@ -60,7 +59,7 @@ module _ (g : Grammar) (all_states : List StartStates) (program : Program) (is_b
   terminals_few = terminals_fit (length (terminals_of g)) states (two_states g valid start states tabled begins) (entries_fit g.prefix (program_items program) g states st tables items params failing same all)
 
   pub triple_filled : (item : RunItem) (d : Runner) → Asks asked methods closure d → Answered left seen (Asks asked methods closure) d cost (seen d) (λ x. x ≡ located_item t.is_located item) (program_answers (To_triple item) d)
-  triple_filled = triple_field (runs_built g.prefix (program_items program) g states st tables items params failing same) closure (IsKnown g) cost enough Trial params failing refl (built_located g all_states program is_built by g.prefix)
+  triple_filled = triple_field (runs_built g.prefix (program_items program) g states st tables items params failing same) closure (IsKnown g) cost enough Trial params failing refl (built_located g all_states program is_built g.prefix)
 
   pub index_filled : (token : Token) → IsKnown g token → (d : Runner) → Asks asked methods closure d → Answered left seen (Asks asked methods closure) d cost (seen d) (λ x. x ≡ t.terminal token) (program_answers (Token_to_index token) d)
   index_filled = index_field (runs_built g.prefix (program_items program) g states st tables items params failing same) closure (IsKnown g) cost enough Trial params failing refl words valid (omega (arith, terminals_few))

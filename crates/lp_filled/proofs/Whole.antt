@@ -1,7 +1,6 @@
 -- The built module of a start answers all questions by the tables.
-use Rattle.std.proofs.Common.{◌≡◌, ℕ, zero, suc, ◌+◌, ◌*◌, ◌<◌, ◌≤◌, ◌^◌, false, max, List, [], ◌∷◌, length, map, All, Option, Some, IfSome, refl, sym, ap, ◌∙◌, subst, arith}
+use Rattle.std.proofs.Common.{◌≡◌, ℕ, zero, suc, ◌<◌, ◌^◌, List, [], ◌∷◌, length, map, All, Option, Some, IfSome, refl, subst, arith}
 use Rattle.std.specs.Prelude.{slice_get}
-use Rattle.std.specs.List.{sum_by}
 use Rattle.std.proofs.lemmas.Option.{slice_get_within, same_Some}
 use Rattle.lp_repr.specs.Numbering.{productions_of, terminals_of}
 use Rattle.lp_repr.specs.ValidTables.{IsValidTables}
@@ -48,7 +47,7 @@ use Rattle.lp_token_answers.proofs.ToldBy.{AreFilled, are_told}
 use Rattle.lp_expected_answers.proofs.Asked.{goto_field, simulate_field}
 use Rattle.lp_expected_answers.proofs.Built.{expected_field, expected_leaves}
 use Rattle.lp_expected_answers.proofs.Counted.{reductions_small, start_begins}
-use Rattle.lp_reductions.specs.Premises.{ActionRuns, longest, reduction_cost}
+use Rattle.lp_reductions.specs.Premises.{ActionRuns, reduction_cost}
 use Rattle.lp_reductions.proofs.Field as field
 use Rattle.lp_reductions.proofs.Recovered.{error_symbol_field}
 use Rattle.lp_reductions.proofs.Linked as linked
@@ -57,7 +56,6 @@ use Rattle.lp_reductions.proofs.Texts.{AllKeys, names_of}
 use Rattle.lp_action_answers.specs.Nesting.{action_cost}
 use Rattle.lp_action_answers.proofs.Depth.{IsPlainGrammar}
 use Rattle.lp_action_answers.proofs.PlainGrammar.{all_told}
-use Rattle.lp_composed.proofs.Agreement.{AllAnswer}
 use Rattle.lp_composed.proofs.Answers.{AnswersRest}
 use Rattle.lp_composed.proofs.Counts.{entries_fit, productions_fit, states_fit, terminals_fit}
 use Rattle.lp_composed.proofs.Parameters.{ArePlain}
@@ -164,9 +162,9 @@ module _ (g : Grammar) (states : List StartStates) (built : Program) (by : IsByT
     pub answers : ((k : ℕ) (prod : Production) → slice_get (productions_of g) k ≡ Some prod → ActionRuns (linked.p runs) (linked.last runs) g t (field.params runs refl keys) (action_cost g) prod)
         → AnswersRest asked methods closure g ss t (IsSymbol g (complete g.prefix program (built_items g ss st))) (IsKnown g) cost
     answers actions = record {
-      to_triple = triple_filled g states built is_built by i ss st may.valid tabled begins (words g states built may is_built fits) items params failing cost (omega arith) tables same all;
-      token_to_index = index_filled g states built is_built by i ss st may.valid tabled begins (words g states built may is_built fits) items params failing cost (omega arith) tables same all;
-      token_to_symbol = symbol_filled g states built is_built by i ss st may.valid tabled begins (words g states built may is_built fits) items params failing cost (omega arith) tables same all told;
+      to_triple = triple_filled g states built is_built i ss st may.valid tabled begins (words g states built may is_built fits) items params failing cost (omega arith) tables same all;
+      token_to_index = index_filled g states built is_built i ss st may.valid tabled begins (words g states built may is_built fits) items params failing cost (omega arith) tables same all;
+      token_to_symbol = symbol_filled g states built is_built i ss st may.valid tabled begins (words g states built may is_built fits) items params failing cost (omega arith) tables same all told;
       expected = λ stack path d h. expected_field may.valid tabled begins params failing runs refl (wordy g.prefix (words g states built may is_built fits)) (start_begins g i names at) counts small (omega (arith, terminals)) entries cost (omega arith) closure stack path d h;
       reduce = reduce_field runs refl (is_prefix_of g.prefix (words g states built may is_built fits)) keys i Trial params failing over (start_begins g i names at) counts (counted g memory) (fields_built g.prefix program g ss st tables items params failing same) closure (action_cost g) actions cost (omega arith);
       mending = mending_filled;

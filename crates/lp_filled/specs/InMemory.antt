@@ -1,9 +1,12 @@
 -- What a look at a grammar in memory tells: its maps are in order, and its lists are no longer than memory.
-use Rattle.std.specs.Prelude.{ℕ, ◌<◌, ◌≤◌, ◌^◌, All, length}
+use Rattle.std.specs.Prelude.{◌<◌, ◌^◌, List, All, length}
 use Rattle.std.specs.BTreeMap.{IsOrdered}
 use Rattle.std.specs.List.{flat_map}
+use Rattle.std.specs.Ordering.{nat_cmp}
 use Rattle.lp_repr.specs.NameOrder.{nonterminal_cmp}
 use Rattle.lp_repr.specs.Numbering.{nonterminals_of, productions_of, terminals_of}
+use Rattle.lp_repr.specs.declared.lr1.Lr1State.{Lr1State}
+use Rattle.lp_repr.specs.declared.lr1.StartStates.{StartStates}
 use Rattle.lp_repr.specs.declared.repr.ActionFnDefn.{ActionFnDefn}
 use Rattle.lp_repr.specs.declared.repr.ActionFnDefnKind.{ActionFnDefnKind}
 use Rattle.lp_repr.specs.declared.repr.ActionFnDefnKind.TheVariants.{User, Lookaround, Inline}
@@ -33,3 +36,11 @@ pub record IsInMemory (g : Grammar) : Type 0 where
   pub count : length g.action_fn_defns < 2 ^ 64
   pub actions : All IsActionInMemory g.action_fn_defns
   pub patterns : AreFew g
+
+-- the gotos of a state are in order
+abbrev pub HasOrderedGotos : Lr1State → Type 0
+HasOrderedGotos s = IsOrdered nat_cmp s.gotos
+
+-- so are those of all states
+abbrev pub AreStatesInMemory : List StartStates → Type 0
+AreStatesInMemory states = All (λ list. All HasOrderedGotos list.states) states

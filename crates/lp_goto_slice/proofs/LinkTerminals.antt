@@ -55,15 +55,15 @@ named_last texts (x ∷ ns) [] n name a is = absurd a
 named_last texts (x ∷ ns) (y ∷ names) n name a is = (a.0, named_last texts ns names n name a.1 is)
 
 -- the rows of a list of terminals
-abbrev name_forms : List (List ℕ) → List Form
+abbrev pub name_forms : List (List ℕ) → List Form
 name_forms names = map (λ (t : List ℕ). row part.TerminalRow (t ∷ []) ∷ []) names
 
-names_flat : (names : List (List ℕ)) → (text_rows part.TerminalRow names ≡ flat (name_forms names)) × AreWhole (name_forms names)
+pub names_flat : (names : List (List ℕ)) → (text_rows part.TerminalRow names ≡ flat (name_forms names)) × AreWhole (name_forms names)
 names_flat [] = (refl, tt)
 names_flat (t ∷ names) = let r = names_flat names in (ap (λ x. row part.TerminalRow (t ∷ []) ∷ x) r.0, (refl, r.1))
 
 -- they are named behind those before
-names_made : (m : Making) (old names : List (List ℕ)) → AreNamed m.texts m.terminals old → (let n = view.over with_terminal m (name_forms names) in AreNamed n.texts n.terminals (old ++ names))
+pub names_made : (m : Making) (old names : List (List ℕ)) → AreNamed m.texts m.terminals old → (let n = view.over with_terminal m (name_forms names) in AreNamed n.texts n.terminals (old ++ names))
 names_made m old [] a = subst (AreNamed m.texts m.terminals) (sym (append-nil old)) a
 names_made m old (name ∷ names) a =
     let n = with_terminal m (row part.TerminalRow (name ∷ []) ∷ []) in

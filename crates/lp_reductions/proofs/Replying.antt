@@ -97,11 +97,12 @@ all_apart : (prefix rest : List ℕ) (qs : List (List ℕ)) → AllKeys prefix q
 all_apart prefix rest [] a = tt
 all_apart prefix rest (q ∷ qs) a = (key_apart prefix rest q a.0, all_apart prefix rest qs a.1)
 
+-- no line of a reduction binds them
 key_outer : (prefix q : List ℕ) → IsKey prefix q → IsOuter q
 key_outer prefix [] h = absurd (omega (arith, h.some))
 key_outer prefix (c ∷ cs) h = outer_word c cs h.no_mark.0
 
-all_outer : (prefix : List ℕ) (qs : List (List ℕ)) → AllKeys prefix qs → AllOuter qs
+pub all_outer : (prefix : List ℕ) (qs : List (List ℕ)) → AllKeys prefix qs → AllOuter qs
 all_outer prefix [] a = tt
 all_outer prefix (q ∷ qs) a = (key_outer prefix q a.0, all_outer prefix qs a.1)
 

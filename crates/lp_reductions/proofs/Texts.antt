@@ -82,7 +82,7 @@ bind_append prefix names (t ∷ a) b = bind_append prefix (bind prefix (bound_of
 abbrev comma : List ℕ
 comma = 44 ∷ 32 ∷ []
 
-unjoined : (t u : List ℕ) (us : List (List ℕ)) → joined comma (t ∷ u ∷ us) ≡ t ++ (comma ++ joined comma (u ∷ us))
+pub unjoined : (t u : List ℕ) (us : List (List ℕ)) → joined comma (t ∷ u ∷ us) ≡ t ++ (comma ++ joined comma (u ∷ us))
 unjoined t u us = ap (λ r. t ++ r) (append_assoc comma u (flat_map (λ y. comma ++ y) us))
 
 unjoin : (x : List ℕ) (xs : List (List ℕ)) (t : List ℕ) (ts : List (List ℕ)) → joined comma (x ∷ (xs ++ t ∷ ts)) ≡ x ++ (comma ++ joined comma (xs ++ t ∷ ts))
@@ -111,7 +111,7 @@ keys_plain prefix [] rest a = refl
 keys_plain prefix (q ∷ qs) rest a = ap (λ k. k ∷ map (plain prefix) (qs ++ rest)) (key_plain prefix q a.0) ∙ ap (λ r. q ∷ r) (keys_plain prefix qs rest a.1)
 
 -- parameters and then other names
-both_named : (prefix : List ℕ) (ps : List Parameter) (t : List ℕ) (ts : List (List ℕ)) → AllKeys prefix (names_of ps) → Apart 44 t ts → names_in prefix (arguments_of ps ++ joined comma (t ∷ ts)) ≡ names_of ps ++ map (plain prefix) (t ∷ ts)
+pub both_named : (prefix : List ℕ) (ps : List Parameter) (t : List ℕ) (ts : List (List ℕ)) → AllKeys prefix (names_of ps) → Apart 44 t ts → names_in prefix (arguments_of ps ++ joined comma (t ∷ ts)) ≡ names_of ps ++ map (plain prefix) (t ∷ ts)
 both_named prefix ps t ts a h =
     ap (λ s. map (plain prefix) (pieces comma s)) (arguments_joined ps t ts)
     ∙ ap (map (plain prefix)) (list_pieces prefix (names_of ps) t ts a h)
@@ -156,14 +156,14 @@ module _ (prefix : List ℕ) (h : IsPrefix prefix) where
   symbol_plain : (i : ℕ) → i < 2 ^ 64 → plain prefix (symbol_name prefix i) ≡ sym_name i
   symbol_plain i small = prefixed_plain prefix (codes "sym" ++ decimal i) (symbol_lacks 38 i small (omega arith) h.wordy.no_and)
 
-  symbols_plain : (k n : ℕ) → k + n ≤ 2 ^ 64 → map (plain prefix) (map (symbol_name prefix) (range_with_len k n)) ≡ symbol_keys k n
+  pub symbols_plain : (k n : ℕ) → k + n ≤ 2 ^ 64 → map (plain prefix) (map (symbol_name prefix) (range_with_len k n)) ≡ symbol_keys k n
   symbols_plain k zero le = refl
   symbols_plain k (suc n) le = ap (λ q. q ∷ map (plain prefix) (map (symbol_name prefix) (range_with_len (k + 1) n))) (symbol_plain k (omega arith)) ∙ ap (λ r. sym_name k ∷ r) (symbols_plain (k + 1) n (omega arith))
 
   symbol_long : (i : ℕ) → 0 < length (symbol_name prefix i)
   symbol_long i = omega (arith, length-append prefix (codes "sym" ++ decimal i))
 
-  symbols_apart : (k n : ℕ) → k + suc n ≤ 2 ^ 64 → Apart 44 (symbol_name prefix k) (map (symbol_name prefix) (range_with_len (k + 1) n))
+  pub symbols_apart : (k n : ℕ) → k + suc n ≤ 2 ^ 64 → Apart 44 (symbol_name prefix k) (map (symbol_name prefix) (range_with_len (k + 1) n))
   symbols_apart k zero le = (symbol_lacks 44 k (omega arith) (omega arith) h.no_comma, symbol_long k)
   symbols_apart k (suc n) le = (symbol_lacks 44 k (omega arith) (omega arith) h.no_comma, symbols_apart (k + 1) n (omega arith))
 
@@ -185,14 +185,21 @@ module _ (prefix : List ℕ) (h : IsPrefix prefix) where
   spans_apart : Apart 44 from_text (to_text ∷ [])
   spans_apart = (((λ e. omega arith), word_lacks 44 (codes "start") h.no_comma (lacks_by 44 (codes "start") refl)), (((λ e. omega arith), word_lacks 44 (codes "end") h.no_comma (lacks_by 44 (codes "end") refl)), omega arith))
 
-  -- the arguments of an action
-  pub arguments_named : (ps : List Parameter) (n : ℕ) → AllKeys prefix (names_of ps) → n ≤ 2 ^ 64 → names_in prefix (arguments_of ps ++ symbol_arguments prefix n) ≡ names_of ps ++ argument_keys n
-  arguments_named ps zero a le =
+  -- parameters and then symbols from a number on
+  pub slots_named : (ps : List Parameter) (k n : ℕ) → AllKeys prefix (names_of ps) → k + suc n ≤ 2 ^ 64 → names_in prefix (arguments_of ps ++ comma_list (map (symbol_name prefix) (range_with_len k (suc n)))) ≡ names_of ps ++ symbol_keys k (suc n)
+  slots_named ps k n a le = both_named prefix ps (symbol_name prefix k) (map (symbol_name prefix) (range_with_len (k + 1) n)) a (symbols_apart k n le) ∙ ap (λ r. names_of ps ++ r) (symbols_plain k (suc n) le)
+
+  -- or the place of none
+  pub place_named : (ps : List Parameter) → AllKeys prefix (names_of ps) → names_in prefix (arguments_of ps ++ span_arguments prefix) ≡ names_of ps ++ argument_keys 0
+  place_named ps a =
       ap (λ s. names_in prefix (arguments_of ps ++ s)) spans_joined
       ∙ both_named prefix ps from_text (to_text ∷ []) a spans_apart
       ∙ ap (λ q. names_of ps ++ q ∷ plain prefix to_text ∷ []) (marked_plain (codes "start"))
       ∙ ap (λ q. names_of ps ++ codes "~start" ∷ q ∷ []) (marked_plain (codes "end"))
+
+  -- the arguments of an action
+  pub arguments_named : (ps : List Parameter) (n : ℕ) → AllKeys prefix (names_of ps) → n ≤ 2 ^ 64 → names_in prefix (arguments_of ps ++ symbol_arguments prefix n) ≡ names_of ps ++ argument_keys n
+  arguments_named ps zero a le = place_named ps a
   arguments_named ps (suc n) a le =
       ap (λ (b : Bool). names_in prefix (arguments_of ps ++ (if b then span_arguments prefix else comma_list (map (symbol_name prefix) (range_with_len 0 (suc n)))))) (ne_eqb (suc n) 0 (λ e. omega arith))
-      ∙ both_named prefix ps (symbol_name prefix 0) (map (symbol_name prefix) (range_with_len 1 n)) a (symbols_apart 0 n (omega arith))
-      ∙ ap (λ r. names_of ps ++ r) (symbols_plain 0 (suc n) (omega arith))
+      ∙ slots_named ps 0 n a (omega arith)

@@ -66,11 +66,11 @@ header_parts name generics params answer clauses =
 
 -- ---- the type in a parameter
 
-abbrev list_front : List ℕ
+abbrev pub list_front : List ℕ
 list_front = codes "states: &mut alloc::vec::Vec<"
 
 -- what a parameter's text tells
-abbrev told_by : List ℕ → Option StateType → List ℕ → Option StateType
+abbrev pub told_by : List ℕ → Option StateType → List ℕ → Option StateType
 told_by prefix kind text = type_in 62 kind (after_both list_front (after_front prefix text))
 
 module _ (prefix : List ℕ) where
@@ -81,7 +81,7 @@ module _ (prefix : List ℕ) where
   over_types kind [] = refl
   over_types kind (t ∷ texts) = over_types kind texts
 
-  abbrev told_all : Option StateType → List (List ℕ) → Option StateType
+  abbrev pub told_all : Option StateType → List (List ℕ) → Option StateType
   told_all kind [] = kind
   told_all kind (t ∷ texts) = told_all (told_by prefix kind t) texts
 
@@ -96,7 +96,7 @@ module _ (prefix : List ℕ) where
   over_result : (kind : Option StateType) (answer : List ℕ) → step kind (result_line answer) ≡ kind
   over_result kind answer = ap (λ (b : Bool). if b then type_in 62 kind (after_both list_front (after_front prefix (hole_of 0 (result_line answer)))) else kind) (result_whole answer).1
 
-  header_told : (name : FunctionName) (generics params : List (List ℕ)) (answer : List ℕ) (clauses : List (List ℕ)) → vec_type prefix (header_lines name generics params answer clauses) ≡ told_all None params
+  pub header_told : (name : FunctionName) (generics params : List (List ℕ)) (answer : List ℕ) (clauses : List (List ℕ)) → vec_type prefix (header_lines name generics params answer clauses) ≡ told_all None params
   header_told name generics params answer clauses =
       let t = type_forms generics in
       let p = parameter_forms params in
@@ -111,7 +111,7 @@ module _ (prefix : List ℕ) where
       ∙ ap (λ k. over step k p) (over_types None generics)
       ∙ over_parameters None params
 
-  told_append : (kind : Option StateType) (a b : List (List ℕ)) → told_all kind (a ++ b) ≡ told_all (told_all kind a) b
+  pub told_append : (kind : Option StateType) (a b : List (List ℕ)) → told_all kind (a ++ b) ≡ told_all (told_all kind a) b
   told_append kind [] b = refl
   told_append kind (t ∷ a) b = told_append (told_by prefix kind t) a b
 
@@ -125,20 +125,20 @@ module _ (prefix : List ℕ) where
       by again true e = again e
       by again false e = refl
 
-  declared_told : (kind : Option StateType) (ps : List Parameter) → Lacks 58 prefix → AllKeys prefix (names_of ps) → told_all kind (map declared_text ps) ≡ kind
+  pub declared_told : (kind : Option StateType) (ps : List Parameter) → Lacks 58 prefix → AllKeys prefix (names_of ps) → told_all kind (map declared_text ps) ≡ kind
   declared_told kind [] l a = refl
   declared_told kind (p ∷ ps) l a =
       ap (λ (b : Bool). told_all (type_in 62 kind (after_both list_front (if b then Some (drop (length prefix) (declared_text p)) else None))) (map declared_text ps)) (no_front prefix p.name (32 ∷ type_text p.ty) a.0.apart l)
       ∙ declared_told kind ps l a.1
 
   -- a text behind the prefix
-  prefixed_told : (kind : Option StateType) (text : List ℕ) → told_by prefix kind (prefix ++ text) ≡ type_in 62 kind (after_front list_front text)
+  pub prefixed_told : (kind : Option StateType) (text : List ℕ) → told_by prefix kind (prefix ++ text) ≡ type_in 62 kind (after_front list_front text)
   prefixed_told kind text =
       ap (λ (b : Bool). type_in 62 kind (after_both list_front (if b then Some (drop (length prefix) (prefix ++ text)) else None))) (has_front prefix (prefix ++ text) text refl)
       ∙ ap (λ t. type_in 62 kind (after_front list_front t)) (drop-append_seam prefix text)
 
   -- the phantom
-  phantom_told : (kind : Option StateType) (front text : List ℕ) → Lacks 58 front → told_by front kind (codes "_: " ++ text) ≡ kind
+  pub phantom_told : (kind : Option StateType) (front text : List ℕ) → Lacks 58 front → told_by front kind (codes "_: " ++ text) ≡ kind
   phantom_told kind [] text l = refl
   phantom_told kind (x ∷ []) text l = by (eqb x 95)
     where
@@ -156,7 +156,7 @@ module _ (prefix : List ℕ) where
       by a b = ap (λ (t : Bool). type_in 62 kind (after_both list_front (if t then Some (drop (length (x ∷ y ∷ ys)) (codes "_: " ++ text)) else None))) (no_more a b)
 
 -- the type of states, without what closes the list
-closed : (a b : Bool) → without_end 62 ((if a then codes "i8" else (if b then codes "i16" else codes "i32")) ++ codes ">") ≡ (if a then codes "i8" else (if b then codes "i16" else codes "i32"))
+pub closed : (a b : Bool) → without_end 62 ((if a then codes "i8" else (if b then codes "i16" else codes "i32")) ++ codes ">") ≡ (if a then codes "i8" else (if b then codes "i16" else codes "i32"))
 closed true b = refl
 closed false true = refl
 closed false false = refl

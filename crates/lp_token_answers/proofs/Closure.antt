@@ -76,7 +76,7 @@ pub data HasClosure (located : Bool) (low : ℕ) (functions : List (Option Funct
   Without : HasClosure located low functions None
   With : (n : ℕ) → Source located low functions n → HasClosure located low functions (Some n)
 
-source_made : (located : Bool) (m : Making) (o : Option Form) → m.item_closure ≡ None → HasClosure located (length m.functions) (sourced located m o).functions (sourced located m o).item_closure
+pub source_made : (located : Bool) (m : Making) (o : Option Form) → m.item_closure ≡ None → HasClosure located (length m.functions) (sourced located m o).functions (sourced located m o).item_closure
 source_made located m None none = With (item_number located m) (closure_made located m)
 source_made located m (Some parser) none =
     either (λ (s : Making). HasClosure located (length m.functions) s.functions s.item_closure) (is_interned parser) _ _ (subst (HasClosure located (length m.functions) m.functions) (sym none) Without) (With (item_number located m) (closure_made located m))

@@ -59,7 +59,7 @@ longer_begins (n ∷ ns) more (c ∷ cs) h = by (eqb n c) h (longer_begins ns mo
     by true h again = again h
     by false h again = refl
 
-longer_nowhere : (word more s : List ℕ) → StandsNowhere word s → StandsNowhere (word ++ more) s
+pub longer_nowhere : (word more s : List ℕ) → StandsNowhere word s → StandsNowhere (word ++ more) s
 longer_nowhere word more [] h = tt
 longer_nowhere word more (c ∷ cs) h = (longer_begins word more (c ∷ cs) h.0, longer_nowhere word more cs h.1)
 

@@ -1,5 +1,5 @@
 -- The patterns of a valid grammar are told where their texts meet the rule, the printed ones are filled as they may be, and their holes are few.
-use Rattle.std.proofs.Common.{◌≡◌, ℕ, zero, suc, ◌+◌, ◌-◌, ◌<◌, ◌^◌, ◌==◌, Bool, true, false, cond, ◌&&◌, List, [], ◌∷◌, ◌++◌, length, map, take, drop, Option, Some, None, IsTrue, inl, inr, refl, sym, ap, subst, ◌∙◌, arith, codes, nat_eq, append_assoc}
+use Rattle.std.proofs.Common.{◌≡◌, ℕ, zero, suc, ◌+◌, ◌-◌, ◌<◌, ◌^◌, ◌==◌, Bool, true, false, cond, ◌&&◌, List, [], ◌∷◌, ◌++◌, length, map, take, drop, Option, Some, None, IsTrue, inl, inr, refl, sym, ap, subst, ◌∙◌, arith, codes, nat_eq, append_assoc, append-nil}
 use Rattle.std.specs.Prelude.{slice_get, slice_index_or, nat_lt, IfSome}
 use Rattle.std.specs.BTreeMap.{get, values}
 use Rattle.std.specs.List.{flat_map, list_all, starts_with}
@@ -29,7 +29,7 @@ use Rattle.lp_spelling.specs.HoleEnds.{is_word}
 use Rattle.lp_maker.specs.Texts as texts
 use Rattle.lp_table.specs.TokenLines.{Known, known_from, known_terminals, terminal_variant, group_of, groups_of, in_group, named_pattern, own_pattern, pattern_of}
 use Rattle.lp_table.specs.declared.tokens.Group.{Group}
-use Rattle.lp_token_answers.specs.Told.{StandsNowhere, AreFew, AreTold}
+use Rattle.lp_token_answers.specs.Told.{StandsNowhere, AreFew, AreTold, IsTold}
 use Rattle.lp_token_answers.proofs.Apart.{HolesFree, AllNowhere, Filled, filled_at, holes_apart}
 use Rattle.lp_token_answers.proofs.Closed.{closed_named}
 use Rattle.lp_token_answers.proofs.FormOf.{underscored, words}
@@ -167,9 +167,15 @@ module _ (g : Grammar) where
       let place = in_its_group group ks i k there (same_itself group) in
       filled_at g.prefix (map (pattern_of g.prefix) (in_group group ks)) place.0 (named_pattern g.prefix p) (patterns_at (in_group group ks) place.0 k place.1) (filled group (group_there ks i k there) some)
 
-  -- patterns are told whose holes are few
-  pub are_told : IsValidGrammar g → KindMeets g Pattern → 0 < length g.prefix → list_all is_word g.prefix ≡ true → AreFilled → AreFew g → AreTold g
-  are_told valid meets some w filled few i t p at is holes =
+  -- the prefix stands in no pattern's text
+  pub text_nowhere : IsValidGrammar g → (t : TerminalString) (p : TokenPattern) → get terminal_cmp g.conversions t ≡ Some p → StandsNowhere g.prefix (pattern_text p)
+  text_nowhere valid t p is =
+      let place = pattern_place t p is in
+      front_nowhere g.prefix (pattern_text p) [] (ap (holds_prefix g.prefix) (append-nil (pattern_text p)) ∙ lacks_prefix valid place.0 p place.1)
+
+  -- a pattern is told whose holes are few, where it is filled as it may be
+  pub told_by : IsValidGrammar g → KindMeets g Pattern → 0 < length g.prefix → list_all is_word g.prefix ≡ true → AreFew g → (i : ℕ) (t : TerminalString) (p : TokenPattern) → slice_get (terminals_of g) i ≡ Some t → own_pattern g t ≡ Some p → Filled g.prefix (named_pattern g.prefix p) → IsTold g.prefix p
+  told_by valid meets some w few i t p at is filled =
       let k = other_known g valid i t at (owns g t p is) in
       let pattern : k.pattern ≡ p = (let both : Some k.pattern ≡ Some p = sym (own_there g t k) ∙ is in cc) in
       let there : get terminal_cmp g.conversions t ≡ Some p = k.there ∙ ap Some pattern in
@@ -182,10 +188,14 @@ module _ (g : Grammar) where
       record {
         counted = counted;
         few = number;
-        apart = holes_apart g.prefix p.pieces some small (pieces_nowhere g.prefix p.pieces (lacks_prefix valid place.0 p place.1)) (holes_free p.pieces rule) (filled_pattern filled (terminals_known g valid) i t p at is holes);
+        apart = holes_apart g.prefix p.pieces some small (pieces_nowhere g.prefix p.pieces (lacks_prefix valid place.0 p place.1)) (holes_free p.pieces rule) filled;
         closed = closed_named g.prefix p.pieces some (words g.prefix w) small rule;
       }
     where
       both_first : (a b : Bool) → (a && b) ≡ true → a ≡ true
       both_first true b h = refl
       both_first false b h = absurd cc
+
+  -- those of a program whose printed patterns are
+  pub are_told : IsValidGrammar g → KindMeets g Pattern → 0 < length g.prefix → list_all is_word g.prefix ≡ true → AreFilled → AreFew g → AreTold g
+  are_told valid meets some w filled few i t p at is holes = told_by valid meets some w few i t p at is (filled_pattern filled (terminals_known g valid) i t p at is holes)
