@@ -10,8 +10,10 @@ use Rattle.lp_fitting.specs.Fitting.{IsFitting}
 use Rattle.lp_laws.specs.Laws.{text_of}
 use Rattle.lp_emitted.specs.Emittable.{IsEmittable}
 use Rattle.lp_emitted.proofs.Fitting.{emitted_reads_back}
-use Rattle.lp_filled.specs.InMemory.{IsInMemory}
-use Rattle.lp_filled.proofs.Emission.{emission_agrees}
+use Rattle.lp_filled.specs.BackEndLaw.{SuitsCode}
+use Rattle.lp_filled.specs.InMemory.{AreStatesInMemory, IsInMemory}
+use Rattle.lp_ascent_told.proofs.Emission.{emission_agrees}
+use Rattle.lp_ascent_told.proofs.NamesApart.{named_apart}
 use Rattle.lp_emit.specs.Causes.{MayBeEmitted, Refuses}
 use Rattle.lp_emit.specs.Misfits.{RefusesProgram}
 use Rattle.lp_emit.specs.Texts.{IsEmission}
@@ -22,11 +24,17 @@ use Rattle.lp_emit.specs.declared.errors.EmitError.TheVariants.{NoStart, Unsuppo
 pub emittable : (g : Grammar) (states : List StartStates) → MayBeEmitted g states → IsEmittable g states
 emittable g states m = record { start = m.buildable.sound.0.0; valid = m.buildable.sound.1; counts = m.buildable.counts; tabled = m.tabled; texts = m.texts }
 
+-- where recursive ascent is asked for it suits
+suits : (g : Grammar) (states : List StartStates) → MayBeEmitted g states → SuitsCode g
+suits g states may is =
+    let s = may.buildable.by_ascent is in
+    (s.0, named_apart g (λ first second less within same. s.1 first second (record { order = less; within = within; same = same })))
+
 pub emission :
     {S E : Type 0} (g : Grammar) (states : List StartStates) (options : Options) (bytes : S → List ℕ) (utf8 : (s : S) → IsUtf8 (bytes s)) (result : Result S E) (program : Program) →
-    MayBeEmitted g states → IsInMemory g → IsBuiltWith options.comments g states program → IsFitting program → IfOk result (λ t. bytes t ≡ text_of options program) →
+    MayBeEmitted g states → IsInMemory g → AreStatesInMemory states → IsBuiltWith options.comments g states program → IsFitting program → IfOk result (λ t. bytes t ≡ text_of options program) →
     IfOk result (λ t. IsEmission g states options (bytes t))
-emission g states options bytes utf8 (Ok t) program may memory (is, commented) fits same = record {
+emission g states options bytes utf8 (Ok t) program may memory ordered (is, commented) fits same = record {
   program = program;
   built = is;
   commented = commented;
@@ -34,9 +42,9 @@ emission g states options bytes utf8 (Ok t) program may memory (is, commented) f
   printed = same;
   utf8 = utf8 t;
   reads = λ read back. subst (λ text. ReadsAs text read) (sym same) (emitted_reads_back g states program options read (emittable g states may) is fits back);
-  agrees = λ by read printed. emission_agrees g states options by memory (emittable g states may) program read is fits printed;
+  agrees = λ read printed. emission_agrees g states options (record { memory = memory; ordered = ordered; suits = suits g states may }) (emittable g states may) program read is fits printed;
 }
-emission g states options bytes utf8 (Err e) program may memory is fits same = same
+emission g states options bytes utf8 (Err e) program may memory ordered is fits same = same
 
 -- what is refused of the program that is built is refused of the grammar and its states
 pub refuses : (g : Grammar) (states : List StartStates) (program : Program) (error : EmitError) → MayBeEmitted g states → IsBuilt g states program → RefusesProgram g program error → Refuses g states error

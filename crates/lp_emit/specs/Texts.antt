@@ -8,14 +8,13 @@ use Rattle.lp_tree.specs.declared.tree.Program.{Program}
 use Rattle.lp_write.specs.declared.rust.Options.{Options}
 use Rattle.lp_assembly.specs.Built.{IsBuilt}
 use Rattle.lp_agrees.specs.Agrees.{AllAgree}
-use Rattle.lp_agrees.specs.Emission.{IsAsPrinted, IsByTables}
+use Rattle.lp_agrees.specs.Emission.{IsAsPrinted}
 use Rattle.lp_fitting.specs.Fitting.{IsFitting}
 use Rattle.lp_laws.specs.AsRead.{IsRead}
 use Rattle.lp_laws.specs.Laws.{text_of}
 
 -- the bytes of the lines of the program that is built of a grammar and its states, whose texts may stand where they do; they are
--- UTF-8, and read as that program. Where the parsers are by tables, all runs of the program that they read as are those of the stack
--- machine over the tables
+-- UTF-8, and read as that program. All runs of the program that they read as are those of the stack machine over the tables
 pub record IsEmission (g : Grammar) (states : List StartStates) (options : Options) (text : List ℕ) : Type 0 where
   pub program : Program
   pub built : IsBuilt g states program
@@ -24,4 +23,4 @@ pub record IsEmission (g : Grammar) (states : List StartStates) (options : Optio
   pub printed : text ≡ text_of options program
   pub utf8 : IsUtf8 text
   pub reads : (read : Program) → IsRead options.whitespace program read → ReadsAs text read
-  pub agrees : IsByTables g.algorithm.codegen → (read : Program) → IsAsPrinted options program read → AllAgree read g states
+  pub agrees : (read : Program) → IsAsPrinted options program read → AllAgree read g states

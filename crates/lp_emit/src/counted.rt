@@ -5,7 +5,7 @@ ghost use Rattle.std.specs.BTreeMap.{values};
 ghost use Rattle.std.specs.List.{flat_map};
 ghost use Rattle.std.specs.Map.Iter.{deref};
 ghost use Rattle.lp_actions.specs.Parameters.{symbols_of};
-ghost use Rattle.lp_filled.specs.InMemory.{IsActionInMemory, IsInMemory, IsProductionInMemory};
+ghost use Rattle.lp_filled.specs.InMemory.{AreStatesInMemory, HasOrderedGotos, IsActionInMemory, IsInMemory, IsProductionInMemory};
 ghost use Rattle.lp_repr.specs.Numbering.{productions_of};
 ghost use Rattle.lp_token_answers.specs.Told.{AreFew};
 
@@ -13,6 +13,7 @@ use lp_repr::numbering::productions;
 use lp_repr::repr::{
     ActionFnDefn, ActionFnDefnKind, Grammar, InlinedSymbol, Production, TokenPattern,
 };
+use lp_repr::{Lr1State, StartStates};
 use std::alloc::{AllocError, Global};
 
 /// More than memory has places for.
@@ -124,4 +125,21 @@ fn see_holes(patterns: &[&TokenPattern]) -> Result<(), AllocError>
         see_few(pattern.holes.as_slice().len())?;
     }
     Ok(())
+}
+
+/// The gotos of all states are in order.
+pub(crate) fn see_states(states: &[StartStates])
+    ensures { AreStatesInMemory states.now }
+{
+    for list in states {
+        see_gotos(list.states.as_slice());
+    }
+}
+
+fn see_gotos(states: &[Lr1State])
+    ensures { All HasOrderedGotos states.now }
+{
+    for state in states {
+        let _gotos = state.gotos.len();
+    }
 }

@@ -8,7 +8,7 @@ ghost use Rattle.lp_laws.specs.Laws.{text_of};
 ghost use Rattle.lp_write.specs.Sinks.{Took};
 
 use crate::checks::{check, check_fit};
-use crate::counted::see_counted;
+use crate::counted::{see_counted, see_states};
 use crate::errors::EmitError;
 use crate::growing::GrowingSink;
 use lp_assembly::build_program;
@@ -58,6 +58,7 @@ pub fn emitted_text(
 {
     check(alloc, grammar, states)?;
     see_counted(alloc, grammar)?;
+    see_states(states);
     let program = build_program(alloc, grammar, states, options.comments)?;
     check_fit(alloc, grammar, &program)?;
     printed(alloc, &program, *options)

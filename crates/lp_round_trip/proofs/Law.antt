@@ -74,7 +74,7 @@ emission_is_read g states options text e chosen c =
     (same.0 ∙ is.prefix, same.1 ∙ ap told_trees is.trees)
 
 pub emission_agrees_as_read : EmissionAgreesAsRead
-emission_agrees_as_read g states options text e by chosen c = e.agrees by chosen (emission_is_read g states options text e chosen c)
+emission_agrees_as_read g states options text e chosen c = e.agrees chosen (emission_is_read g states options text e chosen c)
 
 pub emission_is_not_refused : EmissionIsNotRefused
 emission_is_not_refused g states options text e line refused =

@@ -1,5 +1,5 @@
 -- What the laws say: an emitted text is read as the program that was built.
-use Rattle.std.specs.Prelude.{◌≡◌, ℕ, List, []}
+use Rattle.std.specs.Prelude.{ℕ, List, []}
 use Rattle.lp_repr.specs.declared.lr1.StartStates.{StartStates}
 use Rattle.lp_repr.specs.declared.repr.Grammar.{Grammar}
 use Rattle.lp_tree.specs.declared.tree.Program.{Program}
@@ -12,7 +12,7 @@ use Rattle.lp_shown.specs.Laws.{AreParted}
 use Rattle.lp_chosen.specs.Laws.{BodiesTold}
 use Rattle.lp_printed.specs.Laws.{printed_trees}
 use Rattle.lp_agrees.specs.Agrees.{AllAgree}
-use Rattle.lp_agrees.specs.Emission.{IsAsPrinted, IsByTables}
+use Rattle.lp_agrees.specs.Emission.{IsAsPrinted}
 use Rattle.lp_emit.specs.Texts.{IsEmission}
 
 -- where the texts of a program may stand where they do, all its holes are parted
@@ -39,6 +39,6 @@ EmissionIsRead = (g : Grammar) (states : List StartStates) (options : Options) (
 abbrev pub EmissionIsNotRefused : Type 0
 EmissionIsNotRefused = (g : Grammar) (states : List StartStates) (options : Options) (text : List ℕ) (e : IsEmission g states options text) (line : ℕ) → IsRefused text (fault.NoForm line) → ⊥
 
--- where the parsers are by tables, each program that an emission is chosen as agrees with the tables
+-- each program that an emission is chosen as agrees with the tables
 abbrev pub EmissionAgreesAsRead : Type 0
-EmissionAgreesAsRead = (g : Grammar) (states : List StartStates) (options : Options) (text : List ℕ) (e : IsEmission g states options text) → IsByTables g.algorithm.codegen → (chosen : Program) → IsChosen text chosen → AllAgree chosen g states
+EmissionAgreesAsRead = (g : Grammar) (states : List StartStates) (options : Options) (text : List ℕ) (e : IsEmission g states options text) → (chosen : Program) → IsChosen text chosen → AllAgree chosen g states

@@ -1,2 +1,4 @@
 pub mod Codes
 pub mod Laws
+pub mod BackEnds
+pub mod Lawful

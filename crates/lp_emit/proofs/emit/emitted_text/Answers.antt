@@ -13,7 +13,7 @@ returns-in_err-check_fit-clause-cause c =
 
 pub returns-clause-text : goal.returns-clause-text
 returns-clause-text c =
-    emission c.args.grammar.now c.args.states.now c.args.options.now (λ t. string_bytes t) (λ t. IsUtf8-string_bytes t) c.printed.result c.in_ok-program.program c.in_ok-check.ensures c.in_ok-see_counted.ensures c.in_ok-program.ensures c.in_ok-check_fit.ensures c.printed.ensures.text
+    emission c.args.grammar.now c.args.states.now c.args.options.now (λ t. string_bytes t) (λ t. IsUtf8-string_bytes t) c.printed.result c.in_ok-program.program c.in_ok-check.ensures c.in_ok-see_counted.ensures c.see_states.ensures c.in_ok-program.ensures c.in_ok-check_fit.ensures c.printed.ensures.text
 
 pub build_program-requires : goal.build_program-requires
 build_program-requires c = emitted_entries_fit c.args.grammar.now c.args.states.now (emittable c.args.grammar.now c.args.states.now c.in_ok-check.ensures)

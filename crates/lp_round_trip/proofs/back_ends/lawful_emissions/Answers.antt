@@ -1,0 +1,5 @@
+use Rattle.lp_filled.proofs.Composition.{composition}
+use Rattle.lp_round_trip.proofs.back_ends.lawful_emissions.Goals as goal
+
+pub returns : goal.returns
+returns g c = composition g.B.LawfulBackEnd.code (g.met.B.LawfulBackEnd.law).runs
