@@ -6,3 +6,5 @@ mod Supported
 mod Tabled
 mod Telling
 mod TextTold
+mod OneTerminal
+mod ByTables

@@ -17,7 +17,7 @@ use Rattle.lp_lines.specs.File.{IsCutFile}
 use Rattle.lp_write.specs.Sinks.{Told}
 use Rattle.lp_write.specs.declared.rust.Options.{Options}
 use Rattle.lp_tool.specs.Command.{looks}
-use Rattle.lp_tool.specs.Outputs.{IsReport, IsRunOutput, IsTailIn, first_count}
+use Rattle.lp_tool.specs.Outputs.{IsReport, IsRunOutput, IsTailIn}
 use Rattle.lp_tool.specs.Causes.{IsOfFile, IsOfWriting, IsStop, Written}
 use Rattle.lp_tool.specs.Told.{AreTablesOrNone, Holds, IsAnswered, IsEmitted, IsMade, IsOfLowered, IsPrepared, IsRefusal, Tells, ToldOf, Wrote}
 use Rattle.lp_tool.specs.declared.command.Command.{Command}
@@ -127,13 +127,12 @@ made_emit options left plain g tables text_len output l a m e n = (g, l, emitted
 pub made_run : (options : Options) (left : Option (List ℕ)) (plain : PlainGrammar) (g : Grammar) (tables : List StartStates) (tail : List ℕ) (text_len : ℕ) (output : List ℕ) → LowersTo plain g → AreTablesOrNone g tables → MayBeEmitted g tables → IsTailIn left tail → IsRunOutput g tables options tail text_len output → IsMade (Some (asked.Run options)) left plain tables text_len output
 made_run options left plain g tables tail text_len output l a m t r = (g, l, emitted g tables a m, (tail, t, r))
 
-pub made_make : (levels : ℕ) (left : Option (List ℕ)) (plain : PlainGrammar) (g : Grammar) (tables : List StartStates) (text_len : ℕ) (output text : List ℕ) → LowersTo plain g → AreTablesOrNone g tables → MayBeEmitted g tables → IsEmission g tables (looks false true) text → text_len ≡ length text → IsReport levels text (first_count tables) text_len output → IsMade (Some (asked.Make levels)) left plain tables text_len output
+pub made_make : (levels : ℕ) (left : Option (List ℕ)) (plain : PlainGrammar) (g : Grammar) (tables : List StartStates) (text_len : ℕ) (output text : List ℕ) → LowersTo plain g → AreTablesOrNone g tables → MayBeEmitted g tables → IsEmission g tables (looks false true) text → text_len ≡ length text → IsReport g tables levels text text_len output → IsMade (Some (asked.Make levels)) left plain tables text_len output
 made_make levels left plain g tables text_len output text l a m e n r = (g, l, emitted g tables a m, (text, e, n, r))
 
--- what is told of a text and its tables, by their sizes
-pub report_of : (levels : ℕ) (text : List ℕ) (states states' text_len text_len' : ℕ) (output output' : List ℕ) → states ≡ states' → text_len ≡ text_len' → output ≡ output' → IsReport levels text states text_len output → IsReport levels text states' text_len' output'
-report_of levels text states states' text_len text_len' output output' s t o r =
-    subst (IsReport levels text states' text_len') o (subst (λ n. IsReport levels text states' n output) t (subst (λ n. IsReport levels text n text_len output) s r))
+-- what is told of a text and its tables, by its length
+pub report_of : (g : Grammar) (tables : List StartStates) (levels : ℕ) (text : List ℕ) (text_len text_len' : ℕ) (output output' : List ℕ) → text_len ≡ text_len' → output ≡ output' → IsReport g tables levels text text_len output → IsReport g tables levels text text_len' output'
+report_of g tables levels text text_len text_len' output output' t o r = subst (IsReport g tables levels text text_len') o (subst (λ n. IsReport g tables levels text n output) t r)
 
 some_same : (a b : List ℕ) → Some a ≡ Some b → a ≡ b
 some_same a b p = ap (λ (o : Option (List ℕ)). unwrap_or o a) p

@@ -5,3 +5,4 @@ pub mod Outputs
 pub mod Told
 pub mod LinesTold
 pub mod TextTold
+pub mod Runs

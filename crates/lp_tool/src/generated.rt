@@ -1,23 +1,31 @@
 //! The generated grammar, emitted and run.
 
-ghost use Rattle.std.specs.Prelude.{◌≡◌, ◌++◌, ℕ, List, [], Option, None, Some, IfErr, IfOk, OnOk, codes, length, string_bytes};
+ghost use Rattle.std.specs.Prelude.{◌≡◌, ◌++◌, ◌<◌, ℕ, true, false, List, [], Option, Some, IfErr, IfOk, IfSome, IsSome, OnOk, length, string_bytes};
+ghost use Rattle.std.specs.BTreeMap.{btree_map_len};
 ghost use Rattle.lp_program.specs.Choosing.{IsProgramOf};
 ghost use Rattle.lp_tool.specs.Causes.{IsOfFile};
 ghost use Rattle.lp_tool.specs.LinesTold.{IsOfNoLine};
-ghost use Rattle.lp_text_run.specs.Courses.{Course, IsCourse};
-ghost use Rattle.lp_tool.specs.Outputs.{IsNeverRefused, IsReport, course_text, first_count, size_text};
+ghost use Rattle.lp_emit.specs.Causes.{MayBeEmitted};
+ghost use Rattle.lp_emit.specs.Texts.{IsEmission};
+ghost use Rattle.lp_plain.specs.Front.{LowersTo};
+ghost use Rattle.lp_run.specs.ProgramRun.{Finish};
+ghost use Rattle.lp_run.specs.RunTold.{RunsProgram, run_finish};
+ghost use Rattle.lp_tool.specs.Command.{looks};
+ghost use Rattle.lp_tool.specs.Outputs.{IsFirstName, IsNeverRefused, IsReport, course_text, first_count, size_text};
+ghost use Rattle.lp_tool.specs.Runs.{IsOver};
 ghost use Rattle.lp_tool.specs.TextTold.{OfFile, OfText, Spells, TellsText};
 ghost use Rattle.lp_tool.specs.Told.{IsAnswered, IsPrepared, Tells};
 ghost use Rattle.lp_tool.specs.declared.command.Command.{Command};
 
-use crate::file::{Stop, file_of};
+use crate::file::{File, Stop, file_of};
 use crate::status::Status;
-use crate::tool::{Prepared, emitted};
+use crate::tool::{Prepared, emitted, parameter_values};
 use lp_driver::RunError;
 use lp_generated::{make_items, make_text};
 use lp_program::{Program, ReadFault};
-use lp_repr::StartStates;
+use lp_repr::repr::{Grammar, NonterminalString};
 use lp_repr::values::RunItem;
+use lp_repr::{StartStates, Text};
 use lp_run::{Run, run_program};
 use lp_viable::read_program;
 use lp_write::Options;
@@ -41,12 +49,11 @@ pub fn prepare_generated(alloc: Global, levels: u8) -> Result<Prepared, Stop>
         return Err(Stop::bare(Status::Memory));
     };
     let file = file_of(alloc, source.as_str().as_bytes())?;
-    let states = state_count(file.tables.as_slice());
     let text = match emitted(alloc, &file, &Options::default()) {
         Ok(text) => text,
         Err(status) => return Err(Stop::with(status, file.plain)),
     };
-    let output = match report(alloc, text.as_str(), states, levels) {
+    let output = match report(alloc, &file, text.as_str(), levels) {
         Ok(output) => output,
         Err(AllocError) => return Err(Stop::bare(Status::Memory)),
     };
@@ -68,16 +75,39 @@ fn state_count(tables: &[StartStates]) -> usize
     }
 }
 
-/// The lines that tell of a generated text and of its run.
-fn report(alloc: Global, text: &str, states: usize, levels: u8) -> Result<String, AllocError>
-    requires { IsNeverRefused text.now }
-    ensures { IfOk result (λ output. IsReport levels text.now states (length text.now) (string_bytes output)) }
+/// The lines that tell of the text of a generated grammar, and of its run from the first public
+/// name, where each parameter has its name as its value.
+fn report(alloc: Global, file: &File, text: &str, levels: u8) -> Result<String, AllocError>
+    requires lowered { LowersTo file.now.plain file.now.lowered }
+    requires emitted { MayBeEmitted file.now.lowered file.now.tables.items }
+    requires text { IsEmission file.now.lowered file.now.tables.items (looks false true) text.now }
+    ensures { IfOk result (λ output. IsReport file.now.lowered file.now.tables.items levels text.now (length text.now) (string_bytes output)) }
 {
-    let mut output = sizes(alloc, states, text.len())?;
+    let mut output = sizes(alloc, state_count(file.tables.as_slice()), text.len())?;
     let program = read_back(alloc, text)?;
     let items = make_items(alloc, u32::from(levels))?;
-    write_course(alloc, &program, items.as_slice(), &mut output)?;
+    let values = parameter_values(alloc, &file.lowered)?;
+    let start = first_start(&file.lowered).unwrap();
+    let run = run_over(
+        alloc,
+        &program,
+        start.0.as_str(),
+        items.as_slice(),
+        values.as_slice(),
+    )?;
+    write_run(&mut output, &run)?;
     Ok(output)
+}
+
+/// The first public name.
+fn first_start(grammar: &Grammar) -> Option<&NonterminalString>
+    ensures there { 0 < btree_map_len grammar.now.start_nonterminals → IsSome result }
+    ensures first { IfSome result (λ name. IsFirstName grammar.now name.now) }
+{
+    match grammar.start_nonterminals.iter().nth(0) {
+        Some((name, _)) => Some(name),
+        None => None,
+    }
 }
 
 /// The program that a text is read as which is never refused.
@@ -92,21 +122,24 @@ fn read_back<'t>(alloc: Global, text: &'t str) -> Result<Program<'t>, AllocError
     }
 }
 
-/// Appends what is told of the run of these items.
-fn write_course(
+/// The run from a public name, which comes to an end or spends its budget.
+fn run_over(
     alloc: Global,
     program: &Program<'_>,
+    start: &str,
     items: &[RunItem],
-    output: &mut String,
-) -> Result<(), AllocError>
-    ensures { OnOk result ((course : Course) × IsCourse program.now (codes "E0") items.now [] [] 1000000 course × (string_bytes output.new ≡ string_bytes output.old ++ course_text course.events course.outcome course.steps)) }
+    values: &[Text],
+) -> Result<Run, AllocError>
+    requires { (finish : Finish) → RunsProgram program.now start.now items.now values.now [] 1000000 finish → IsOver finish }
+    ensures { IfOk result (λ run. RunsProgram program.now start.now items.now values.now [] 1000000 (run_finish run)) }
 {
-    match run_program(alloc, program, "E0", items, &[], &[], BUDGET) {
-        Ok(run) => write_run(output, &run)?,
-        Err(RunError::Stuck { steps }) => write_stuck(output, steps)?,
-        Err(_) => return Err(AllocError),
+    match run_program(alloc, program, start, items, values, &[], BUDGET) {
+        Ok(run) => Ok(run),
+        Err(RunError::Memory) => Err(AllocError),
+        Err(RunError::NoStart) => unreachable!(),
+        Err(RunError::ParameterCount) => unreachable!(),
+        Err(RunError::Stuck { .. }) => unreachable!(),
     }
-    Ok(())
 }
 
 /// The number of states, and the length of the text.
@@ -117,21 +150,13 @@ fn sizes(alloc: Global, states: usize, length: usize) -> Result<String, AllocErr
     format!(in alloc; "states {states}\ntext {length}\n")
 }
 
-/// Appends what is told of a run that ended.
+/// Appends what is told of a run.
 #[tactic(auto, unfolding(crate::specs::Outputs::course_text))]
 fn write_run(output: &mut String, run: &Run) -> Result<(), AllocError>
-    ensures { OnOk result (string_bytes output.new ≡ string_bytes output.old ++ course_text run.now.events (Some run.now.outcome) run.now.steps) }
+    ensures { OnOk result (string_bytes output.new ≡ string_bytes output.old ++ course_text run.now.events run.now.outcome run.now.steps) }
 {
     let calls = run.events.as_slice().len();
     let outcome = &run.outcome;
     let steps = run.steps;
     write!(output, "calls {calls}\n{outcome}\nsteps {steps}\n")
-}
-
-/// Appends what is told of a run that is stuck.
-#[tactic(auto, unfolding(crate::specs::Outputs::course_text))]
-fn write_stuck(output: &mut String, steps: u64) -> Result<(), AllocError>
-    ensures { OnOk result (string_bytes output.new ≡ string_bytes output.old ++ course_text [] None steps) }
-{
-    write!(output, "stuck\nsteps {steps}\n")
 }

@@ -7,7 +7,8 @@ ghost use Rattle.lp_plain.specs.Front.{LowersTo};
 ghost use Rattle.lp_tool.specs.Command.{command_of};
 ghost use Rattle.lp_tool.specs.Causes.{Causes, IsOfFile, IsOfReading, IsOfWriting, IsPastReading, IsStop, StopsReading, Written};
 ghost use Rattle.lp_tool.specs.LinesTold.{IsBeforeLines, IsOfNoLine, TellsLine, TellsRunLine, ToldOfLines};
-ghost use Rattle.lp_tool.specs.Outputs.{AreLinesOf, IsRunOutput, values_of};
+ghost use Rattle.lp_tool.specs.Outputs.{AreLinesOf, IsRunOutput};
+ghost use Rattle.lp_tool.specs.Runs.{values_of};
 ghost use Rattle.lp_tool.specs.TextTold.{OfFile, OfText, Spells, TellsText, ToldOfText};
 ghost use Rattle.lp_tool.specs.Told.{AreTablesOrNone, HasTables, IsAnswered, IsOfLowered, IsPrepared, IsRefusal, Tells, ToldOf, Wrote};
 
@@ -210,10 +211,11 @@ fn text_and_runs(alloc: Global, file: &File, options: &Options) -> Result<(usize
             Ok(output) => Ok(output),
             Err(AllocError) => Err(Status::Memory),
         },
-        // What is emitted is read.
+        Err(TextRunFault::Memory) => Err(Status::Memory),
+        // What is emitted is read, its token lines name its starts, and each parameter has a value.
         Err(TextRunFault::NoForm { .. }) => unreachable!(),
-        // Its token lines name its starts, and each parameter has a value.
-        Err(_) => Err(Status::Memory),
+        Err(TextRunFault::NoStart { .. }) => unreachable!(),
+        Err(TextRunFault::ParameterCount { .. }) => unreachable!(),
     }
 }
 

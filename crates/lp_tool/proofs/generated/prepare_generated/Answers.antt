@@ -1,12 +1,9 @@
-use Rattle.std.proofs.Common.{rules, ◌≡◌, ◌∙◌, ap, IfErr, Some, true, false, length, string_bytes, subst}
+use Rattle.std.proofs.Common.{rules, ◌≡◌, ◌∙◌, ap, IfErr, Some, true, false, length, string_bytes, subst, sym}
 use Rattle.lp_emit.specs.Causes.{MayBeEmitted}
 use Rattle.lp_emit.specs.Texts.{IsEmission}
 use Rattle.lp_generated.specs.Generated.{grammar_text}
-use Rattle.lp_program.specs.Choosing.{IsRefused}
-use Rattle.lp_program.specs.declared.read.reader.ReadFault.TheVariants.{NoForm}
-use Rattle.lp_round_trip.proofs.Law.{emission_is_not_refused}
 use Rattle.lp_tool.specs.Command.{looks}
-use Rattle.lp_tool.specs.Outputs.{IsReport, first_count}
+use Rattle.lp_tool.specs.Outputs.{IsReport}
 use Rattle.lp_tool.specs.Causes.{IsOfFile}
 use Rattle.lp_tool.specs.LinesTold.{IsBeforeLines}
 use Rattle.lp_tool.specs.TextTold.{OfText, Spells, ToldOfText}
@@ -29,12 +26,11 @@ returns-clause-prepared c =
     let told : IsEmission c.in_ok-file.file.lowered c.in_ok-file.file.tables.items c.default.result (string_bytes c.in-Ok-emitted.text) = c.in-Ok-emitted.ensures.text in
     let text : IsEmission c.in_ok-file.file.lowered c.in_ok-file.file.tables.items (looks false true) (string_bytes c.in-Ok-emitted.text) = subst (λ o. IsEmission c.in_ok-file.file.lowered c.in_ok-file.file.tables.items o (string_bytes c.in-Ok-emitted.text)) usual told in
     let len : c.len.result ≡ length (string_bytes c.in-Ok-emitted.text) = search rules in
-    let states : c.state_count-states.result ≡ first_count c.in_ok-file.file.tables.items = search rules in
     let size : length (string_bytes c.in-Ok-emitted.text) ≡ c.len.result = search rules in
     let bytes : string_bytes c.in-Ok-report.output ≡ c.into_bytes.result.items = search rules in
-    let lines : IsReport c.args.levels (string_bytes c.in-Ok-emitted.text) c.state_count-states.result (length (string_bytes c.in-Ok-emitted.text)) (string_bytes c.in-Ok-report.output) =
-    subst (λ t. IsReport c.args.levels t c.state_count-states.result (length t) (string_bytes c.in-Ok-report.output)) c.as_str-2.ensures.value c.in-Ok-report.ensures in
-    let report = report_of c.args.levels (string_bytes c.in-Ok-emitted.text) c.state_count-states.result (first_count c.in_ok-file.file.tables.items) (length (string_bytes c.in-Ok-emitted.text)) c.len.result (string_bytes c.in-Ok-report.output) c.into_bytes.result.items states size bytes lines in
+    let lines : IsReport c.in_ok-file.file.lowered c.in_ok-file.file.tables.items c.args.levels (string_bytes c.in-Ok-emitted.text) (length (string_bytes c.in-Ok-emitted.text)) (string_bytes c.in-Ok-report.output) =
+    subst (λ t. IsReport c.in_ok-file.file.lowered c.in_ok-file.file.tables.items c.args.levels t (length t) (string_bytes c.in-Ok-report.output)) c.as_str-2.ensures.value c.in-Ok-report.ensures in
+    let report = report_of g tables c.args.levels (string_bytes c.in-Ok-emitted.text) (length (string_bytes c.in-Ok-emitted.text)) c.len.result (string_bytes c.in-Ok-report.output) c.into_bytes.result.items size bytes lines in
     λ left. made_make c.args.levels left c.in_ok-file.file.plain g tables c.len.result c.into_bytes.result.items (string_bytes c.in-Ok-emitted.text) c.in_ok-file.ensures.file.lowered c.in_ok-file.ensures.file.tables may text len report
 
 pub returns-in_err-file-clause-no_line : goal.returns-in_err-file-clause-no_line
@@ -69,8 +65,8 @@ returns-clause-spelled c =
 pub emitted-requires-clause-spelled : goal.emitted-requires-clause-spelled
 emitted-requires-clause-spelled c = (c.in_ok-file.ensures.file.tail.0, c.in_ok-file.ensures.file.tail.2)
 
--- what is emitted is read
-pub report-requires : goal.report-requires
-report-requires c =
-    let text : IsEmission c.in_ok-file.file.lowered c.in_ok-file.file.tables.items c.default.result (string_bytes c.in-Ok-emitted.text) = c.in-Ok-emitted.ensures.text in
-    λ line refused. emission_is_not_refused c.in_ok-file.file.lowered c.in_ok-file.file.tables.items c.default.result (string_bytes c.in-Ok-emitted.text) text line (subst (λ t. IsRefused t (NoForm line)) c.as_str-2.ensures.value refused)
+pub report-requires-clause-text : goal.report-requires-clause-text
+report-requires-clause-text c =
+    let usual : c.default.result ≡ looks false true = search rules in
+    let told : IsEmission c.in_ok-file.file.lowered c.in_ok-file.file.tables.items c.default.result (string_bytes c.in-Ok-emitted.text) = c.in-Ok-emitted.ensures.text in
+    subst (IsEmission c.in_ok-file.file.lowered c.in_ok-file.file.tables.items (looks false true)) (sym c.as_str-2.ensures.value) (subst (λ o. IsEmission c.in_ok-file.file.lowered c.in_ok-file.file.tables.items o (string_bytes c.in-Ok-emitted.text)) usual told)
