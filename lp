@@ -8,7 +8,6 @@ Where no FILE is named, the grammar file is standard input. Before the program i
 changed, the same sources run unproved.
 """
 
-import concurrent.futures
 import fcntl
 import os
 import re
@@ -22,8 +21,8 @@ import time
 TOP = os.path.dirname(os.path.realpath(__file__))
 MAIN = "lp_main"
 FAILED = 70
-# The memory that one more proof beside others should find free.
-ROOM = 3_000_000_000
+# The file whose time says from when on the sources are that are proved.
+PROVED = f"{TOP}/crates/{MAIN}/out/proved"
 
 
 def say(text):
@@ -38,21 +37,12 @@ def program():
     return f"{folder(MAIN)}/out/{MAIN}"
 
 
-def proved(name):
-    """The file whose time says from when on the sources are that are proved."""
-    return f"{folder(name)}/out/proved"
-
-
-def lines_of_crates():
-    """The lines of crates.txt, by the crates that they name."""
-    with open(f"{TOP}/crates.txt", encoding="utf-8") as it:
-        return {line.split()[0].rstrip(":"): line for line in it if ":" in line.split("#")[0]}
-
-
 def read_crates():
     """What each crate of crates.txt stands on, of these crates."""
-    lines = lines_of_crates()
-    return {name: [it for it in lines[name].split("#")[0].split() if it in lines] for name in lines}
+    with open(f"{TOP}/crates.txt", encoding="utf-8") as it:
+        pairs = [line.split("#")[0].split(":") for line in it if ":" in line.split("#")[0]]
+    names = {name.strip() for name, _ in pairs}
+    return {name.strip(): [it for it in rest.split() if it in names] for name, rest in pairs}
 
 
 def below(name, crates):
@@ -73,13 +63,12 @@ def last_change(name):
     return max(os.stat(path).st_mtime for at, files in walked for path in [at, *(f"{at}/{it}" for it in files)])
 
 
-def is_current(name, crates):
-    """Whether what is built of the crate is of its sources and those below it."""
+def is_current(crates):
+    """Whether the program is built, of the sources that stand here."""
     try:
-        since = os.stat(proved(name)).st_mtime
-        return os.stat(f"{TOP}/crates.txt").st_mtime <= since and all(
-            last_change(it) <= since and os.stat(proved(it)).st_mtime <= since for it in below(name, crates)
-        )
+        since = os.stat(PROVED).st_mtime
+        changed = [os.stat(f"{TOP}/crates.txt").st_mtime, *map(last_change, below(MAIN, crates))]
+        return os.access(program(), os.X_OK) and max(changed) <= since
     except OSError:
         return False
 
@@ -110,140 +99,79 @@ def run_unproved(words):
 
 # The build
 #
-# `rt lib` keeps other calls out of the folders of all crates below, so each proof has a room of its own: copies of the
-# sources, links to the libraries that it stands on, and the crate's own kept work, which comes back when the proof ends.
-
-ROOMS = f"{TOP}/out/rooms"
-CALLED = []
-STOPPED = threading.Event()
+# `rt ci` proves the crates below the program side by side, and keeps each as it ends.
 
 
-def link_or_copy(source, to):
-    try:
-        os.link(source, to)
-    except OSError:
-        shutil.copy2(source, to)
-
-
-def make_room(name, crates):
-    room = f"{ROOMS}/{name}"
-    shutil.rmtree(room, ignore_errors=True)
-    for it in below(name, crates):
-        for part in ("src", "specs", "proofs"):
-            if os.path.isdir(f"{folder(it)}/{part}"):
-                shutil.copytree(f"{folder(it)}/{part}", f"{room}/crates/{it}/{part}")
-        if it != name:
-            shutil.copytree(f"{folder(it)}/out/rlib", f"{room}/crates/{it}/out/rlib", copy_function=link_or_copy)
-    lines = lines_of_crates()
-    with open(f"{room}/crates.txt", "w", encoding="utf-8") as it:
-        it.writelines(lines[name] for name in below(name, crates))
-    if os.path.isdir(f"{folder(name)}/out"):
-        os.rename(f"{folder(name)}/out", f"{room}/crates/{name}/out")
-    return f"{room}/crates/{name}"
-
-
-def leave_room(name):
-    """Takes the crate's kept work out of its room, also of a room that an earlier call left."""
-    kept = f"{ROOMS}/{name}/crates/{name}/out"
-    if os.path.isdir(kept) and not os.path.isdir(f"{folder(name)}/out"):
-        os.rename(kept, f"{folder(name)}/out")
-    shutil.rmtree(f"{ROOMS}/{name}", ignore_errors=True)
-
-
-def call(words, place, log, **how):
-    """Calls a command with its lines in the log, and returns its status and what it wrote beside them."""
-    with open(log, "ab") as out:
-        how = {"stdin": subprocess.DEVNULL, "stdout": out, **how}
-        called = subprocess.Popen(words, cwd=place, stderr=out, start_new_session=True, **how)
-        CALLED.append(called)
-        if STOPPED.is_set():
-            called.terminate()
-        wrote, _ = called.communicate()
-        return called.returncode, wrote
-
-
-def prove(name, crates):
-    """Proves one crate, where what is kept isn't of its sources, and returns whether it is proved."""
-    since, log = time.time(), f"{TOP}/out/{name}.log"
-    open(log, "wb").close()
-    if name == MAIN:
-        is_proved = build_program(log)
-    else:
+def at_work(group):
+    """The crates that commands of a process group are proving."""
+    found = set()
+    for pid in filter(str.isdigit, os.listdir("/proc")):
         try:
-            is_proved = call(["rt", "lib", "--jobs", "1"], make_room(name, crates), log)[0] == 0
-        finally:
-            leave_room(name)
-    if is_proved:
-        open(proved(name), "w").close()
-        os.utime(proved(name), (since, since))
-    return is_proved
+            if os.getpgid(int(pid)) == group:
+                with open(f"/proc/{pid}/cmdline", encoding="utf-8", errors="replace") as it:
+                    words = it.read().split("\0")
+                found.update(words[at + 1] for at, word in enumerate(words) if word == "--crate-name")
+        except OSError:
+            # (it ended)
+            pass
+    return found
 
 
-def build_program(log):
-    """Builds the program, over libraries that are built, and looks whether it writes a text that is stored."""
-    with open(f"{TOP}/examples/one_rule.lp", "rb") as source:
-        answer = call(["rt", "run", "--", "emit"], folder(MAIN), log, stdin=source, stdout=subprocess.PIPE)
-    with open(f"{TOP}/examples/one_rule.rs", "rb") as stored:
-        return answer == (0, stored.read())
+def watch(called, begun):
+    """Notes when each crate's proof begins."""
+    while called.poll() is None:
+        for name in at_work(called.pid):
+            begun.setdefault(name, time.monotonic())
+        time.sleep(0.5)
 
 
-def lanes_of(words):
-    if words:
-        return int(words[0])
-    with open("/proc/meminfo", encoding="utf-8") as it:
-        free = 1024 * int(re.search(r"MemAvailable: *(\d+)", it.read())[1])
-    return max(1, min(len(os.sched_getaffinity(0)), free // ROOM))
-
-
-def prove_all(pool, lanes, crates, left, done):
-    """Proves the crates that are left, each once those that it stands on are done, and returns those that are refused."""
-    total, running, refused = len(left) + len(done), {}, []
-    while True:
-        ready = [it for it in left if done.issuperset(crates[it])]
-        for name in ready[: lanes - len(running)]:
-            left.remove(name)
-            running[pool.submit(prove, name, crates)] = name, time.monotonic()
-        if not running:
-            return refused
-        for it in concurrent.futures.wait(running, return_when="FIRST_COMPLETED").done:
-            name, since = running.pop(it)
-            minutes, seconds = divmod(round(time.monotonic() - since), 60)
-            if it.result():
-                done.add(name)
-                print(f"{len(done)} of {total} {name} {minutes}m{seconds:02}s", flush=True)
-            else:
-                refused.append(name)
-                say(f"{name} is not proved: out/{name}.log says why")
+def told(line, wanted, begun, done):
+    """Prints a line for a crate that is done, or says which isn't proved."""
+    found = re.fullmatch(r"rt: (\w+) (proved|is kept\b.*|NOT PROVED\b.*)", line.strip())
+    if not found or found[1] not in wanted:
+        return
+    name, how = found[1], found[2]
+    if how.startswith("NOT"):
+        say(f"{name} is not proved: out/build.log says why")
+        return
+    done.add(name)
+    minutes, seconds = divmod(round(time.monotonic() - begun.get(name, time.monotonic())), 60)
+    took = f"{minutes}m{seconds:02}s" if how == "proved" else "kept"
+    print(f"{len(done)} of {len(wanted)} {name} {took}", flush=True)
 
 
 def build(lanes):
-    os.makedirs(ROOMS, exist_ok=True)
-    turn = os.open(ROOMS, os.O_RDONLY)
+    """Proves and builds the program, so many crates at a time, or as many as memory holds."""
+    os.makedirs(f"{TOP}/out", exist_ok=True)
+    turn = os.open(f"{TOP}/out", os.O_RDONLY)
     try:
         fcntl.flock(turn, fcntl.LOCK_EX | fcntl.LOCK_NB)
     except OSError:
         say("another ./lp build is at work here")
         return FAILED
     crates = read_crates()
-    wanted = below(MAIN, crates)
-    for name in wanted:
-        leave_room(name)
-    done = {it for it in wanted if is_current(it, crates)}
-    left = [it for it in wanted if it not in done]
-    if left:
-        say(f"{len(done)} of {len(wanted)} crates are proved; the others follow, {lanes} at a time")
-    with concurrent.futures.ThreadPoolExecutor(lanes) as pool:
+    if is_current(crates):
+        say("it is built: ./lp is the proved program, until a source changes")
+        return 0
+    wanted, since, begun, done = below(MAIN, crates), time.time(), {}, set()
+    how = {**os.environ, **({"RT_JOBS": lanes} if lanes else {})}
+    with open(f"{TOP}/out/build.log", "w", encoding="utf-8") as log:
+        pipe = {"stdout": subprocess.PIPE, "stderr": subprocess.STDOUT, "stdin": subprocess.DEVNULL}
+        called = subprocess.Popen(["rt", "ci", MAIN], cwd=TOP, env=how, start_new_session=True, text=True, **pipe)
+        threading.Thread(target=watch, args=(called, begun), daemon=True).start()
         try:
-            refused = prove_all(pool, lanes, crates, left, done)
+            for line in called.stdout:
+                log.write(line)
+                told(line, wanted, begun, done)
         except KeyboardInterrupt:
-            STOPPED.set()
-            for it in list(CALLED):
-                it.terminate()
+            os.killpg(called.pid, signal.SIGTERM)
             say("stopped; `./lp build` goes on from here")
             raise
-    if refused:
-        say("not built; `./lp build` goes on with what is left")
+    if called.wait():
+        say("not built: out/build.log says why; `./lp build` goes on with what is left")
         return FAILED
+    open(PROVED, "w").close()
+    os.utime(PROVED, (since, since))
     say("built: ./lp is the proved program, until a source changes")
     return 0
 
@@ -266,12 +194,12 @@ def main(words):
         except OSError as error:
             say(f"{error.filename}: {error.strerror}")
             return 1
-        if is_current(MAIN, read_crates()):
+        if is_current(read_crates()):
             os.execv(program(), [program(), *words])
     if not shutil.which("rt"):
         say("the command rt of the Rattle kit is not on the path")
         return FAILED
-    return build(lanes_of(words[1:])) if is_build else run_unproved(words)
+    return build("".join(words[1:])) if is_build else run_unproved(words)
 
 
 if __name__ == "__main__":

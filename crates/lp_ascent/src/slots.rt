@@ -10,7 +10,8 @@ ghost use Rattle.lp_ascent.specs.Slots.{count_of, has_lookahead, is_cell, is_ter
 
 use lp_repr::numbering::productions;
 use lp_repr::repr::{Grammar, Production, Symbol};
-use lp_repr::{Item, Lr1State, max_prefix, will_pop};
+use lp_repr::{Item, Lr1State};
+use lp_state_parts::{max_prefix, will_pop};
 use std::alloc::{AllocError, Global};
 use std::collections::BTreeMap;
 

@@ -26,7 +26,7 @@ use Rattle.lp_machine.specs.GrammarTables.{grammar_tables, known_among}
 use Rattle.lp_machine.specs.Lookup.{act_at, goto_at}
 use Rattle.lp_machine.specs.Tables.{Tables}
 use Rattle.lp_parts.specs.Entries.{action_entries}
-use Rattle.lp_parts.specs.GotoLaw.{answer}
+use Rattle.lp_state_parts.specs.GotoLaw.{answer}
 use Rattle.lp_maker.specs.Making.{Making, Entries, entries_of}
 use Rattle.lp_maker.specs.Texts as maker
 use Rattle.lp_bodies.specs.Tables as bodies

@@ -19,8 +19,9 @@ use lp_notes::noted_program;
 use lp_parts::texts::{TypeTexts, each_with_comma};
 use lp_repr::repr::{Grammar, LrCodeGeneration, NonterminalString, WhereClause};
 use lp_repr::{Lr1State, StartStates, Text};
+use lp_table::BackEnd;
 use lp_table::pieces::{lent, lent_name, made};
-use lp_table::{BackEnd, TableBackEnd};
+use lp_table_module::TableBackEnd;
 use lp_tree::{Node, Piece, Program};
 use std::alloc::{AllocError, Global};
 

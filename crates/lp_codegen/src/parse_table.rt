@@ -12,7 +12,7 @@ use lp_notes::noted_module;
 use lp_program::print_node;
 use lp_repr::Lr1State;
 use lp_repr::repr::{Grammar, NonterminalString};
-use lp_table::table_module_of;
+use lp_table_module::table_module_of;
 use lp_write::{RustWrite, Sink, WriteError};
 use std::alloc::Global;
 

@@ -10,8 +10,8 @@ use Rattle.lp_repr.specs.declared.lr1.Lr1State.{Lr1State}
 use Rattle.lp_repr.specs.declared.repr.Grammar.{Grammar}
 use Rattle.lp_repr.specs.declared.repr.NonterminalString.{NonterminalString}
 use Rattle.lp_parts.specs.Entries.{action_entries, end_entries}
-use Rattle.lp_parts.specs.Gotos.{arms_of, column_from}
-use Rattle.lp_parts.specs.declared.gotos.GotoArm.{GotoArm}
+use Rattle.lp_state_parts.specs.Gotos.{arms_of, column_from}
+use Rattle.lp_state_parts.specs.declared.gotos.GotoArm.{GotoArm}
 use Rattle.lp_table.specs.TableLines.{action_lookup, action_table, arm_row, end_table, expected_lines, goto_function, gotos_from, gotos_lines, terminal_lines, terminal_name, terminal_names}
 use Rattle.std.specs.List.{flat_map}
 use Rattle.lp_emitted.proofs.Rows.{Told, Takes, either, many_map, many_more, many_none, many_one, one_leaf, over_one, text_many, told_leaf}

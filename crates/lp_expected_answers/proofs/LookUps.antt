@@ -17,7 +17,7 @@ use Rattle.lp_core.specs.declared.value.StateType.{StateType}
 use Rattle.lp_core.specs.Numbers.{number, index, fitting}
 use Rattle.lp_machine.specs.Lookup.{act_at, goto_at}
 use Rattle.lp_parts.specs.Entries.{action_entries}
-use Rattle.lp_parts.specs.GotoLaw.{answer}
+use Rattle.lp_state_parts.specs.GotoLaw.{answer}
 use Rattle.lp_maker.specs.declared.methods.Methods.{Methods}
 use Rattle.lp_maker.specs.Making.{Making}
 use Rattle.lp_maker.specs.Texts.{state_type_of}

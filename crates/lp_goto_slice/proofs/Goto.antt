@@ -16,10 +16,10 @@ use Rattle.lp_core.specs.Store.{Program, Held, UserCall}
 use Rattle.lp_core.specs.Flow.{Flow, Gives, spend, leave}
 use Rattle.lp_core.specs.Eval.{run, run_call, enter}
 use Rattle.lp_core.proofs.Same.{run_end}
-use Rattle.lp_parts.specs.GotoLaw as parts
-use Rattle.lp_parts.specs.GotoLaw.{answer}
-use Rattle.lp_parts.specs.Gotos.{arms_of, column_from}
-use Rattle.lp_parts.proofs.GotoAnswers.{faithful}
+use Rattle.lp_state_parts.specs.GotoLaw as parts
+use Rattle.lp_state_parts.specs.GotoLaw.{answer}
+use Rattle.lp_state_parts.specs.Gotos.{arms_of, column_from}
+use Rattle.lp_state_parts.proofs.GotoAnswers.{faithful}
 use Rattle.lp_table.specs.Starts.{state_text}
 use Rattle.lp_table.specs.TableLines as lines
 use Rattle.lp_maker.specs.Constructs.{call_function}

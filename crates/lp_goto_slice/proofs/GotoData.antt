@@ -6,13 +6,13 @@ use Rattle.std.specs.List.{remove}
 use Rattle.std.specs.Ordering.{nat_cmp}
 use Rattle.std.specs.BTreeMap.{get}
 use Rattle.lp_repr.specs.declared.lr1.Lr1State.{Lr1State}
-use Rattle.lp_parts.specs.declared.gotos.StateRange.{StateRange}
-use Rattle.lp_parts.specs.declared.gotos.GotoArm.{GotoArm}
-use Rattle.lp_parts.specs.declared.gotos.Gotos.{Gotos}
-use Rattle.lp_parts.specs.declared.gotos.Gotos.TheVariants.{Nowhere, One, Several}
-use Rattle.lp_parts.specs.GotoLaw.{IsGotosOf, goto_at, target_at}
-use Rattle.lp_parts.specs.Gotos.{IsCatchAll, arms_of, column_from, grow, one_state_range, range_counts, with_goto, with_state}
-use Rattle.lp_parts.proofs.GotoAnswers.{length-range_counts}
+use Rattle.lp_state_parts.specs.declared.gotos.StateRange.{StateRange}
+use Rattle.lp_state_parts.specs.declared.gotos.GotoArm.{GotoArm}
+use Rattle.lp_state_parts.specs.declared.gotos.Gotos.{Gotos}
+use Rattle.lp_state_parts.specs.declared.gotos.Gotos.TheVariants.{Nowhere, One, Several}
+use Rattle.lp_state_parts.specs.GotoLaw.{IsGotosOf, goto_at, target_at}
+use Rattle.lp_state_parts.specs.Gotos.{IsCatchAll, arms_of, column_from, grow, one_state_range, range_counts, with_goto, with_state}
+use Rattle.lp_state_parts.proofs.GotoAnswers.{length-range_counts}
 use Rattle.lp_table.specs.TableLines.{catch_all_place, first_place, greatest}
 
 -- ---- the catch-all

@@ -22,12 +22,12 @@ use Rattle.std.specs.Option.{option_map}
 use Rattle.lp_core.specs.Eval.{run, run_call, enter}
 use Rattle.lp_form.specs.declared.part.Part.TheVariants as part
 use Rattle.lp_build.specs.Built as built
-use Rattle.lp_parts.specs.declared.gotos.StateRange.{StateRange}
-use Rattle.lp_parts.specs.declared.gotos.GotoArm.{GotoArm}
-use Rattle.lp_parts.specs.declared.gotos.Gotos.{Gotos}
-use Rattle.lp_parts.specs.declared.gotos.Gotos.TheVariants.{Nowhere, One, Several}
-use Rattle.lp_parts.specs.GotoLaw.{answer}
-use Rattle.lp_parts.specs.Gotos.{has_state, is_in, target_in}
+use Rattle.lp_state_parts.specs.declared.gotos.StateRange.{StateRange}
+use Rattle.lp_state_parts.specs.declared.gotos.GotoArm.{GotoArm}
+use Rattle.lp_state_parts.specs.declared.gotos.Gotos.{Gotos}
+use Rattle.lp_state_parts.specs.declared.gotos.Gotos.TheVariants.{Nowhere, One, Several}
+use Rattle.lp_state_parts.specs.GotoLaw.{answer}
+use Rattle.lp_state_parts.specs.Gotos.{has_state, is_in, target_in}
 use Rattle.lp_table.specs.TableLines.{gotos_from}
 use Rattle.std.proofs.Math.Seq.{take-length}
 use Rattle.lp_view.specs.PartLists.{Form, over}

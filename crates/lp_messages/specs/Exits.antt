@@ -1,7 +1,7 @@
 -- The exit code of a status.
 use Rattle.std.specs.Prelude.{ℕ}
-use Rattle.lp_tool.specs.declared.status.Status.{Status}
-use Rattle.lp_tool.specs.declared.status.Status.TheVariants.{Done, Usage, Grammar, Conflict, TooManyStates, Refused, TokenLine, TooLong, ReadFault, WriteFault, Memory}
+use Rattle.lp_status.specs.declared.status.Status.{Status}
+use Rattle.lp_status.specs.declared.status.Status.TheVariants.{Done, Usage, Grammar, Conflict, TooManyStates, Refused, TokenLine, TooLong, ReadFault, WriteFault, Memory}
 
 -- 1 where the input is wrong, 2 where the words are, 3 for reading, writing and memory
 abbrev pub exit_of : Status → ℕ

@@ -11,7 +11,7 @@ use crate::refusals::refusal_message;
 use lp_lines::cut_file;
 use lp_plain::{BytesFault, PlainGrammar, lowered_of};
 use lp_repr::repr::Grammar;
-use lp_tool::Status;
+use lp_status::Status;
 use std::alloc::{AllocError, Global};
 use std::str;
 

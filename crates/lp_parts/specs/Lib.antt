@@ -1,8 +1,5 @@
 pub mod StateType
 pub mod Entries
-pub mod Gotos
-pub mod GotoPlaces
-pub mod GotoLaw
 pub mod Filter
 pub mod Texts
 pub mod Phantom

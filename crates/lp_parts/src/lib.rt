@@ -1,11 +1,10 @@
-//! The parts of modules that stand by themselves: table entries, gotos as ranges, the variants of
+//! The parts of modules that stand by themselves: table entries, the variants of
 //! symbols, filters of type parameters, and the texts that forms share.
 #![tactic(auto)]
 
 pub mod comment;
 pub mod entries;
 pub mod filter;
-pub mod gotos;
 pub mod machine_parameters;
 mod named;
 pub mod number_type;

@@ -1,5 +1,4 @@
 pub mod Lists
-pub mod Parts
 pub mod FreeRows
 pub mod Numbers
 pub mod TextParts

@@ -3,7 +3,8 @@
 ghost use Rattle.lp_filled.specs.BackEndLaw.{EmissionsAgree};
 
 use lp_ascent::AscentBackEnd;
-use lp_table::{BackEnd, TableBackEnd};
+use lp_table::BackEnd;
+use lp_table_module::TableBackEnd;
 
 /// A back end that obeys the law: what it makes is the module of its kind of code, and in every
 /// program that is built with that code all runs of the module of a start are those of the stack

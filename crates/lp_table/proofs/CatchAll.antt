@@ -5,11 +5,11 @@ use Rattle.std.specs.List.{remove}
 use Rattle.lp_form.specs.declared.part.Part.TheVariants as part
 use Rattle.lp_tree.specs.ProgramTree.{Item, leaf}
 use Rattle.lp_build.specs.Built.{over}
-use Rattle.lp_parts.specs.GotoLaw.{IsGotosOf, target_at}
-use Rattle.lp_parts.specs.Gotos.{IsCatchAll, range_counts}
-use Rattle.lp_parts.specs.declared.gotos.GotoArm.{GotoArm}
-use Rattle.lp_parts.specs.declared.gotos.Gotos.{Gotos}
-use Rattle.lp_parts.specs.declared.gotos.Gotos.TheVariants.{Nowhere, One, Several}
+use Rattle.lp_state_parts.specs.GotoLaw.{IsGotosOf, target_at}
+use Rattle.lp_state_parts.specs.Gotos.{IsCatchAll, range_counts}
+use Rattle.lp_state_parts.specs.declared.gotos.GotoArm.{GotoArm}
+use Rattle.lp_state_parts.specs.declared.gotos.Gotos.{Gotos}
+use Rattle.lp_state_parts.specs.declared.gotos.Gotos.TheVariants.{Nowhere, One, Several}
 use Rattle.lp_table.specs.TableLines.{arm_row, catch_all_place, first_place, gotos_lines, greatest, printed_gotos}
 
 -- each count is at most the greatest

@@ -12,12 +12,12 @@ use Rattle.lp_repr.specs.declared.repr.TerminalString.TheVariants.{Quoted, Bare,
 use Rattle.lp_tree.specs.ProgramTree.{Item, leaf}
 use Rattle.lp_build.specs.Built.{barred, over, row, text_rows}
 use Rattle.lp_parts.specs.Entries.{action_entries, end_entries}
-use Rattle.lp_parts.specs.GotoLaw.{target_at}
-use Rattle.lp_parts.specs.Gotos.{arms_of, column_from, range_counts}
-use Rattle.lp_parts.specs.declared.gotos.GotoArm.{GotoArm}
-use Rattle.lp_parts.specs.declared.gotos.Gotos.{Gotos}
-use Rattle.lp_parts.specs.declared.gotos.Gotos.TheVariants.{Nowhere, One, Several}
-use Rattle.lp_parts.specs.declared.gotos.StateRange.{StateRange}
+use Rattle.lp_state_parts.specs.GotoLaw.{target_at}
+use Rattle.lp_state_parts.specs.Gotos.{arms_of, column_from, range_counts}
+use Rattle.lp_state_parts.specs.declared.gotos.GotoArm.{GotoArm}
+use Rattle.lp_state_parts.specs.declared.gotos.Gotos.{Gotos}
+use Rattle.lp_state_parts.specs.declared.gotos.Gotos.TheVariants.{Nowhere, One, Several}
+use Rattle.lp_state_parts.specs.declared.gotos.StateRange.{StateRange}
 use Rattle.lp_table.specs.Starts.{state_text}
 
 -- the entries by state and terminal, in one list

@@ -1,10 +1,5 @@
 //! Back ends: what makes the module of a start.
 
-ghost use Rattle.std.specs.Prelude.{◌≡◌, All};
-ghost use Rattle.lp_parts.specs.Entries.{EntriesFit};
-ghost use Rattle.lp_table.specs.BuiltTable.{built_table_at};
-
-use crate::table_module::build_table_module;
 use lp_repr::Lr1State;
 use lp_repr::repr::Grammar;
 use lp_tree::Node;
@@ -35,24 +30,4 @@ pub trait BackEnd {
         requires start { start < btree_map_len grammar.now.start_nonterminals }
         requires accepts { Accepts grammar.now states.now }
         ensures { IfOk result (λ n. IsBuilt grammar.entry.now states.entry.now start (items n)) };
-}
-
-/// Table-driven code.
-#[derive(Clone, Copy)]
-pub struct TableBackEnd;
-
-impl BackEnd for TableBackEnd {
-    ghost Accepts = { λ grammar states. All EntriesFit states };
-
-    ghost IsBuilt = { λ grammar states start parts. parts ≡ built_table_at grammar states start };
-
-    fn build_module<'t>(
-        &self,
-        alloc: Global,
-        grammar: &'t Grammar,
-        start: usize,
-        states: &'t [Lr1State],
-    ) -> Result<Node<'t>, AllocError> {
-        build_table_module(alloc, grammar, start, states)
-    }
 }

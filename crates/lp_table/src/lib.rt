@@ -1,4 +1,4 @@
-//! The tree of a table-driven module, and what the back ends share.
+//! The forms of a table-driven module, and what the back ends share.
 #![tactic(auto)]
 
 pub mod back_end;
@@ -9,12 +9,10 @@ pub mod machine;
 pub mod pieces;
 pub mod reductions;
 pub mod shared;
-pub mod table_module;
 pub mod tables;
 pub mod tokens;
 
-pub use back_end::{BackEnd, TableBackEnd};
+pub use back_end::BackEnd;
 pub use lp_parts::{
     Comment, MachineParameters, filter_type_parameters_and_where_clauses, state_type,
 };
-pub use table_module::{build_table_module, table_module_of};

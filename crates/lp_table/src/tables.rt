@@ -4,7 +4,7 @@ ghost use Rattle.std.specs.Prelude.{◌≡◌, ◌++◌, All, map, IfOk, OnOk};
 ghost use Rattle.std.specs.List.{flat_map};
 ghost use Rattle.lp_build.specs.Tables.{goto_row, range_text};
 ghost use Rattle.lp_parts.specs.Entries.{EntriesFit};
-ghost use Rattle.lp_parts.specs.Gotos.{arms_of, column_from};
+ghost use Rattle.lp_state_parts.specs.Gotos.{arms_of, column_from};
 ghost use Rattle.lp_table.specs.TableLines.{action_lookup, action_table, arm_row, end_table, goto_function, gotos_lines, printed_gotos, range_shown, terminal_lines, terminal_name};
 ghost use Rattle.lp_tree.specs.ProgramTree.{items};
 
@@ -15,9 +15,9 @@ use lp_build::{
     terminal_list,
 };
 use lp_parts::entries::{action_table_entries, end_table_entries};
-use lp_parts::gotos::{self, Gotos, gotos_on};
 use lp_repr::Lr1State;
 use lp_repr::repr::{TerminalSet, TerminalString};
+use lp_state_parts::gotos::{self, Gotos, gotos_on};
 use lp_tree::{Node, Piece};
 use std::alloc::{AllocError, Global};
 

@@ -18,7 +18,7 @@ use crate::cut::{CutEnd, cut};
 use crate::piece::{Piece, Texted, before, with_text};
 use crate::rest::{Rest, past, whole};
 use crate::tok::{Error, ErrorCode, Spanned, Tok};
-use crate::unread::{Tokenizer, is_unclosed};
+use crate::unread::{Tokenizer, behind_closer, is_unclosed};
 use crate::word::first_piece;
 
 impl<'input> Tokenizer<'input> {
@@ -33,6 +33,7 @@ impl<'input> Tokenizer<'input> {
         Tokenizer {
             rest: text,
             end: text.len() + shift,
+            behind: text.len(),
             unclosed: false,
         }
     }
@@ -115,7 +116,8 @@ impl<'input> Iterator for Tokenizer<'input> {
         let end = self.end;
         match read(whole(self.rest), self.unclosed) {
             Reading::Token(start, token, stop, after) => {
-                self.unclosed = is_unclosed(self.unclosed, &token, after.text);
+                self.unclosed = is_unclosed(self.unclosed, self.behind, &token, after.text);
+                self.behind = behind_closer(self.behind, &token, after.text);
                 self.rest = after.text;
                 Some(Ok((place(end, start.text), token, place(end, stop.text))))
             }

@@ -1,7 +1,7 @@
 use Rattle.std.proofs.Common.{◌≡◌, ◌++◌, List, OnOk, subst}
 use Rattle.std.specs.List.{flat_map}
 use Rattle.lp_tree.specs.ProgramTree.{Item, items}
-use Rattle.lp_parts.specs.Gotos.{arms_of, column_from}
+use Rattle.lp_state_parts.specs.Gotos.{arms_of, column_from}
 use Rattle.lp_table.proofs.CatchAll.{printed_is}
 use Rattle.lp_table.proofs.tables.push_gotos.Goals as goal
 

@@ -1,10 +1,10 @@
 use Rattle.std.proofs.Common.{rules, ◌≡◌, Some, subst}
-use Rattle.lp_tool.specs.Causes.{Written}
-use Rattle.lp_tool.specs.Command.{command_of}
-use Rattle.lp_tool.proofs.Caused.{caused_written}
-use Rattle.lp_tool.proofs.LinesTold.{line_written}
-use Rattle.lp_tool.proofs.Telling.{answered_written, told_written, wrote}
-use Rattle.lp_tool.proofs.TextTold.{text_written}
+use Rattle.lp_prepared.specs.Causes.{Written}
+use Rattle.lp_prepared.specs.Command.{command_of}
+use Rattle.lp_prepared.proofs.Caused.{caused_written}
+use Rattle.lp_prepared.proofs.LinesTold.{line_written}
+use Rattle.lp_prepared.proofs.Telling.{answered_written, told_written, wrote}
+use Rattle.lp_prepared.proofs.TextTold.{text_written}
 use Rattle.lp_tool.proofs.tool.run_tool.Goals as goal
 
 pub returns-in-Ok-clause-wrote : goal.returns-in-Ok-clause-wrote

@@ -1,0 +1,3 @@
+pub mod Gotos
+pub mod GotoPlaces
+pub mod GotoLaw

@@ -1,8 +1,0 @@
-pub mod Causes
-pub mod Command
-pub mod Status
-pub mod Outputs
-pub mod Told
-pub mod LinesTold
-pub mod TextTold
-pub mod Runs
