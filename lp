@@ -15,6 +15,7 @@ import shutil
 import signal
 import subprocess
 import sys
+import tempfile
 import threading
 import time
 
@@ -99,7 +100,21 @@ def run_unproved(words):
 
 # The build
 #
-# `rt ci` proves the crates below the program side by side, and keeps each as it ends.
+# `rt ci` proves the crates below the program side by side, and keeps each as it ends. It does so in a copy that has these
+# crates alone, without the wrong bodies that the gate of the whole repository tries too.
+
+
+def lay_out(room, wanted):
+    """Copies the crates, what each stands on, and what the proofs may reach."""
+    for name in wanted:
+        shutil.copytree(folder(name), f"{room}/crates/{name}", ignore=shutil.ignore_patterns("out", "must-fail"))
+    with open(f"{TOP}/crates.txt", encoding="utf-8") as it:
+        lines = [line for line in it if line.split(":")[0].strip() in wanted]
+    with open(f"{room}/crates.txt", "w", encoding="utf-8") as it:
+        it.writelines(lines)
+    shutil.copy(f"{TOP}/HANDLES", room)
+    # (it is the top of a repository)
+    os.mkdir(f"{room}/.git")
 
 
 def at_work(group):
@@ -140,6 +155,25 @@ def told(line, wanted, begun, done):
     print(f"{len(done)} of {len(wanted)} {name} {took}", flush=True)
 
 
+def prove(room, wanted, lanes):
+    """Proves what is laid out, and tells each crate as it ends. Whether all are proved and the program is built."""
+    how, begun, done = {**os.environ, **({"RT_JOBS": lanes} if lanes else {})}, {}, set()
+    pipe = {"stdout": subprocess.PIPE, "stderr": subprocess.STDOUT, "stdin": subprocess.DEVNULL}
+    with open(f"{TOP}/out/build.log", "w", encoding="utf-8") as log:
+        called = subprocess.Popen(["rt", "ci"], cwd=room, env=how, start_new_session=True, text=True, **pipe)
+        threading.Thread(target=watch, args=(called, begun), daemon=True).start()
+        try:
+            for line in called.stdout:
+                log.write(line)
+                told(line, wanted, begun, done)
+        except KeyboardInterrupt:
+            os.killpg(called.pid, signal.SIGTERM)
+            called.wait()
+            say("stopped; `./lp build` goes on from here")
+            raise
+    return called.wait() == 0
+
+
 def build(lanes):
     """Proves and builds the program, so many crates at a time, or as many as memory holds."""
     os.makedirs(f"{TOP}/out", exist_ok=True)
@@ -153,23 +187,14 @@ def build(lanes):
     if is_current(crates):
         say("it is built: ./lp is the proved program, until a source changes")
         return 0
-    wanted, since, begun, done = below(MAIN, crates), time.time(), {}, set()
-    how = {**os.environ, **({"RT_JOBS": lanes} if lanes else {})}
-    with open(f"{TOP}/out/build.log", "w", encoding="utf-8") as log:
-        pipe = {"stdout": subprocess.PIPE, "stderr": subprocess.STDOUT, "stdin": subprocess.DEVNULL}
-        called = subprocess.Popen(["rt", "ci", MAIN], cwd=TOP, env=how, start_new_session=True, text=True, **pipe)
-        threading.Thread(target=watch, args=(called, begun), daemon=True).start()
-        try:
-            for line in called.stdout:
-                log.write(line)
-                told(line, wanted, begun, done)
-        except KeyboardInterrupt:
-            os.killpg(called.pid, signal.SIGTERM)
-            say("stopped; `./lp build` goes on from here")
-            raise
-    if called.wait():
-        say("not built: out/build.log says why; `./lp build` goes on with what is left")
-        return FAILED
+    wanted, since = below(MAIN, crates), time.time()
+    with tempfile.TemporaryDirectory(prefix="lp-build-") as room:
+        lay_out(room, wanted)
+        if not prove(room, wanted, lanes):
+            say("not built: out/build.log says why; `./lp build` goes on with what is left")
+            return FAILED
+        os.makedirs(f"{folder(MAIN)}/out", exist_ok=True)
+        shutil.copy(f"{room}/crates/{MAIN}/out/{MAIN}", program())
     open(PROVED, "w").close()
     os.utime(PROVED, (since, since))
     say("built: ./lp is the proved program, until a source changes")
