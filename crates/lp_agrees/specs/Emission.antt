@@ -8,7 +8,7 @@ use Rattle.lp_tree.specs.declared.tree.Program.{Program}
 use Rattle.lp_write.specs.declared.rust.Options.{Options}
 use Rattle.lp_program.specs.Trees.{whole}
 use Rattle.lp_fitting.specs.Fitting.{IsFitting}
-use Rattle.lp_printed.specs.Laws.{printed_trees}
+use Rattle.lp_reading_laws.specs.Printed.Laws.{printed_trees}
 use Rattle.lp_assembly.specs.Built.{IsBuilt}
 use Rattle.lp_emitted.specs.Emittable.{IsEmittable}
 use Rattle.lp_agrees.specs.Agrees.{AllAgree}

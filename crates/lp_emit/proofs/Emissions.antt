@@ -7,13 +7,13 @@ use Rattle.lp_tree.specs.declared.tree.Program.{Program}
 use Rattle.lp_write.specs.declared.rust.Options.{Options}
 use Rattle.lp_assembly.specs.Built.{IsBuilt, IsBuiltWith}
 use Rattle.lp_fitting.specs.Fitting.{IsFitting}
-use Rattle.lp_laws.specs.Laws.{text_of}
+use Rattle.lp_reading_laws.specs.Printing.Laws.{text_of}
 use Rattle.lp_emitted.specs.Emittable.{IsEmittable}
 use Rattle.lp_emitted.proofs.Fitting.{emitted_reads_back}
-use Rattle.lp_filled.specs.BackEndLaw.{SuitsCode}
-use Rattle.lp_filled.specs.InMemory.{AreStatesInMemory, IsInMemory}
-use Rattle.lp_ascent_told.proofs.Emission.{emission_agrees}
-use Rattle.lp_ascent_told.proofs.NamesApart.{named_apart}
+use Rattle.lp_back_end_laws.specs.Filled.BackEndLaw.{SuitsCode}
+use Rattle.lp_back_end_laws.specs.Filled.InMemory.{AreStatesInMemory, IsInMemory}
+use Rattle.lp_back_end_laws.proofs.Ascent.Emission.{emission_agrees}
+use Rattle.lp_back_end_laws.proofs.Ascent.NamesApart.{named_apart}
 use Rattle.lp_emit.specs.Causes.{MayBeEmitted, Refuses}
 use Rattle.lp_emit.specs.Misfits.{RefusesProgram}
 use Rattle.lp_emit.specs.Texts.{IsEmission}

@@ -10,8 +10,8 @@ use Rattle.lp_assembly.specs.Built.{IsBuilt}
 use Rattle.lp_agrees.specs.Agrees.{AllAgree}
 use Rattle.lp_agrees.specs.Emission.{IsAsPrinted}
 use Rattle.lp_fitting.specs.Fitting.{IsFitting}
-use Rattle.lp_laws.specs.AsRead.{IsRead}
-use Rattle.lp_laws.specs.Laws.{text_of}
+use Rattle.lp_reading_laws.specs.Printing.AsRead.{IsRead}
+use Rattle.lp_reading_laws.specs.Printing.Laws.{text_of}
 
 -- the bytes of the lines of the program that is built of a grammar and its states, whose texts may stand where they do; they are
 -- UTF-8, and read as that program. All runs of the program that they read as are those of the stack machine over the tables

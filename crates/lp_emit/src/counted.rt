@@ -5,9 +5,9 @@ ghost use Rattle.std.specs.BTreeMap.{values};
 ghost use Rattle.std.specs.List.{flat_map};
 ghost use Rattle.std.specs.Map.Iter.{deref};
 ghost use Rattle.lp_actions.specs.Parameters.{symbols_of};
-ghost use Rattle.lp_filled.specs.InMemory.{AreStatesInMemory, HasOrderedGotos, IsActionInMemory, IsInMemory, IsProductionInMemory};
+ghost use Rattle.lp_back_end_laws.specs.Filled.InMemory.{AreStatesInMemory, HasOrderedGotos, IsActionInMemory, IsInMemory, IsProductionInMemory};
 ghost use Rattle.lp_repr.specs.Numbering.{productions_of};
-ghost use Rattle.lp_token_answers.specs.Told.{AreFew};
+ghost use Rattle.lp_question_laws.specs.Tokens.Told.{AreFew};
 
 use lp_repr::numbering::productions;
 use lp_repr::repr::{

@@ -4,7 +4,7 @@ ghost use Rattle.std.specs.Prelude.{◌≡◌, ℕ, List, OnOk, IfOk, IfErr, Mat
 ghost use Rattle.lp_emit.specs.Causes.{AfterRefusal, MayBeEmitted, Refuses, RefusesToWrite};
 ghost use Rattle.lp_emit.specs.Texts.{IsEmission};
 ghost use Rattle.lp_emit.specs.declared.errors.EmitError.TheVariants.{Memory};
-ghost use Rattle.lp_laws.specs.Laws.{text_of};
+ghost use Rattle.lp_reading_laws.specs.Printing.Laws.{text_of};
 ghost use Rattle.lp_write.specs.Sinks.{Took};
 
 use crate::checks::{check, check_fit};

@@ -22,7 +22,7 @@ use Rattle.lp_tree.specs.declared.tree.Program.{Program}
 use Rattle.lp_program.specs.OwnLines.{hole}
 use Rattle.lp_program.specs.Reads.{is_prefix}
 use Rattle.lp_program.specs.Trees.{Content, content}
-use Rattle.lp_laws.specs.WellFormed.{IsCodeText, IsUseText, IsWellFormed, StepFits}
+use Rattle.lp_reading_laws.specs.Printing.WellFormed.{IsCodeText, IsUseText, IsWellFormed, StepFits}
 use Rattle.lp_parts.specs.Entries.{EntriesFit}
 use Rattle.lp_assembly.specs.Built.{AllFit, IsBuilt}
 use Rattle.lp_fitting.specs.Fitting.{HolesFit, IsFitting}
@@ -37,8 +37,8 @@ use Rattle.lp_emitted.proofs.Prefixes.{prefix_fits}
 use Rattle.lp_emitted.proofs.Programs.{Given}
 use Rattle.lp_emitted.proofs.Rows.{StepTold, StepsTold, Told}
 use Rattle.lp_emitted.proofs.Tables.{TablesTold}
-use Rattle.lp_laws.proofs.Endings.{codes_end, uses_end}
-use Rattle.lp_laws.proofs.Law.{reads_back}
+use Rattle.lp_reading_laws.proofs.Printing.Endings.{codes_end, uses_end}
+use Rattle.lp_reading_laws.proofs.Printing.Law.{reads_back}
 
 -- what is asked of them, where they are UTF-8
 abbrev pub fitting : Told

@@ -16,7 +16,7 @@ use Rattle.lp_program.specs.Reads.{hole_count, parts_in, IsProgram}
 use Rattle.lp_program.specs.Trees.{content, Forest, forest, whole}
 use Rattle.lp_program.specs.Trees.Forest.{bare, tree}
 use Rattle.lp_program.proofs.Grafts.{holds_alone, holds_none, holds_then, holds_tree}
-use Rattle.lp_laws.specs.WellFormed.{is_shared}
+use Rattle.lp_reading_laws.specs.Printing.WellFormed.{is_shared}
 use Rattle.lp_assembly.specs.Built.{IsBuilt}
 use Rattle.lp_emitted.specs.Shapes.{AreShaped, IsShaped, IsShapedPart}
 use Rattle.lp_emitted.proofs.Actions.{KindTold}

@@ -5,7 +5,7 @@ use Rattle.lp_form.specs.declared.part.Part.{Part}
 use Rattle.lp_tree.specs.declared.tree.Entry.{Entry}
 use Rattle.lp_tree.specs.declared.tree.Program.{Program}
 use Rattle.lp_program.specs.Trees.{content, forest, forest_within, whole}
-use Rattle.lp_laws.specs.WellFormed.{IsWell, IsWellFormed, IsWellPart}
+use Rattle.lp_reading_laws.specs.Printing.WellFormed.{IsWell, IsWellFormed, IsWellPart}
 use Rattle.lp_emitted.specs.Shapes.{AreShaped, IsShaped, IsShapedPart}
 use Rattle.lp_fitting.specs.Fitting.{HolesFit, IsFitting}
 use Rattle.lp_program.specs.Reads.{is_prefix}

@@ -20,8 +20,8 @@ use Rattle.lp_valid.specs.Places.{EachPasses}
 use Rattle.lp_valid.specs.ValidGrammar.{names, prefixes}
 use Rattle.lp_spelling.proofs.Reading.{starts_ok}
 use Rattle.lp_program.specs.Reads.{is_prefix}
-use Rattle.lp_laws.proofs.Fronts.{chars_some}
-use Rattle.lp_laws.proofs.Sound.{plain_ascii}
+use Rattle.lp_reading_laws.proofs.Printing.Fronts.{chars_some}
+use Rattle.lp_reading_laws.proofs.Printing.Sound.{plain_ascii}
 use Rattle.lp_emitted.specs.Emittable.{IsEmittable}
 
 -- the first start has a name that begins with the prefix

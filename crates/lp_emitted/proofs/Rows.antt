@@ -13,7 +13,7 @@ use Rattle.lp_form.specs.declared.template.Step.TheVariants as step
 use Rattle.lp_tree.specs.ProgramTree.{Item, leaf}
 use Rattle.lp_program.specs.Reads.{are_pairs, may_have, hole_count}
 use Rattle.lp_program.specs.Printed.{is_member}
-use Rattle.lp_laws.specs.WellFormed.{is_shared}
+use Rattle.lp_reading_laws.specs.Printing.WellFormed.{is_shared}
 use Rattle.lp_emitted.proofs.Apart.{templates_apart}
 use Rattle.lp_emitted.proofs.Sharing.{class_steps, fit, joined, shared_by}
 

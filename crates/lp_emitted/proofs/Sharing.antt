@@ -14,8 +14,8 @@ use Rattle.lp_form.specs.declared.template.Step.{Step}
 use Rattle.lp_form.specs.declared.template.Step.TheVariants as step
 use Rattle.lp_program.specs.Reads.{are_pairs, may_have}
 use Rattle.lp_program.specs.Printed.{is_member, takes, takes_one}
-use Rattle.lp_laws.specs.WellFormed.{taken_in, is_shared}
-use Rattle.lp_laws.specs.TemplateTests.{is_class}
+use Rattle.lp_reading_laws.specs.Printing.WellFormed.{taken_in, is_shared}
+use Rattle.lp_reading_laws.specs.Printing.TemplateTests.{is_class}
 
 -- equal parts are members of the same classes
 member_congr : (class : Class) (p q : Part) → (equality.ghosts).eq p q ≡ true → is_member class p ≡ is_member class q

@@ -7,9 +7,9 @@ use Rattle.lp_program.specs.Reads.{ReadsAs, is_prefix}
 use Rattle.lp_write.specs.declared.rust.Options.{Options}
 use Rattle.lp_assembly.specs.Built.{AllFit, IsBuilt, IsBuiltWith}
 use Rattle.lp_fitting.specs.Fitting.{IsFitting}
-use Rattle.lp_laws.specs.AsRead.{IsRead}
-use Rattle.lp_laws.specs.Laws.{text_of}
-use Rattle.lp_laws.specs.WellFormed.{IsWellFormed}
+use Rattle.lp_reading_laws.specs.Printing.AsRead.{IsRead}
+use Rattle.lp_reading_laws.specs.Printing.Laws.{text_of}
+use Rattle.lp_reading_laws.specs.Printing.WellFormed.{IsWellFormed}
 use Rattle.lp_emitted.specs.Emittable.{IsEmittable}
 use Rattle.lp_emitted.specs.Shapes.{IsShaped}
 use Rattle.lp_emitted.specs.TextsFit.{AreStepsFit}

@@ -6,7 +6,7 @@ use Rattle.lp_tree.specs.declared.tree.Program.{Program}
 use Rattle.lp_program.specs.Reads.{parts_in, hole_count, IsProgram}
 use Rattle.lp_program.specs.Trees.{Content, Forest, whole}
 use Rattle.lp_program.specs.Trees.Forest.{bare, tree}
-use Rattle.lp_laws.specs.WellFormed.{is_shared}
+use Rattle.lp_reading_laws.specs.Printing.WellFormed.{is_shared}
 
 -- a part with these below it: it has as many holes as its template, whose steps share out what stands below
 pub record IsShapedPart (c : Content) (below : List Part) : Type 0 where

@@ -4,7 +4,7 @@ use Rattle.lp_form.specs.Templates.{steps_of}
 use Rattle.lp_tree.specs.declared.tree.Entry.{Entry}
 use Rattle.lp_tree.specs.declared.tree.Program.{Program}
 use Rattle.lp_program.specs.Trees.{content}
-use Rattle.lp_laws.specs.WellFormed.{StepFits}
+use Rattle.lp_reading_laws.specs.Printing.WellFormed.{StepFits}
 
 -- the uses and the user code of a part end where they should, and its table has numbers of 32 bits
 abbrev pub StepsFit : Entry → Type 0

@@ -7,9 +7,9 @@ use Rattle.std.proofs.lemmas.Bool.{false≢true}
 use Rattle.std.proofs.lemmas.Str.{encode_ascii}
 use Rattle.std.proofs.lemmas.Str.Pattern.{drop_at_char}
 use Rattle.lp_texts.specs.OneLine.{begins}
-use Rattle.lp_laws.specs.LineTexts.{IsSkipped}
-use Rattle.lp_laws.specs.WellFormed.{IsTrailing}
-use Rattle.lp_laws.proofs.Lining.{chars_blank}
+use Rattle.lp_reading_laws.specs.Printing.LineTexts.{IsSkipped}
+use Rattle.lp_reading_laws.specs.Printing.WellFormed.{IsTrailing}
+use Rattle.lp_reading_laws.proofs.Printing.Lining.{chars_blank}
 
 -- one blank more
 blanks_more : (n : ℕ) (rest : List ℕ) → replicate n 32 ++ 32 ∷ rest ≡ replicate (suc n) 32 ++ rest

@@ -12,9 +12,9 @@ use Rattle.lp_tree.specs.declared.tree.RowNote.{RowNote}
 use Rattle.lp_spelling.specs.LineReading.{kind_of}
 use Rattle.lp_tree.specs.ProgramTree.{noted}
 use Rattle.lp_program.specs.Trees.{whole}
-use Rattle.lp_laws.specs.LineTexts.{ends_open}
-use Rattle.lp_laws.specs.WellFormed.{HolesFill, IsNote, IsSteady, IsTrailing}
-use Rattle.lp_found.specs.Parted.{IsParted}
+use Rattle.lp_reading_laws.specs.Printing.LineTexts.{ends_open}
+use Rattle.lp_reading_laws.specs.Printing.WellFormed.{HolesFill, IsNote, IsSteady, IsTrailing}
+use Rattle.lp_reading_laws.specs.Holes.Parted.{IsParted}
 use Rattle.lp_fitting.specs.Bodies.{BodiesSuit}
 use Rattle.lp_fitting.specs.Fitting.{HolesFit, IsFitting, MayStand}
 

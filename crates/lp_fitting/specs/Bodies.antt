@@ -10,7 +10,7 @@ use Rattle.lp_program.specs.Trees.{Content, Forest}
 use Rattle.lp_program.specs.Trees.Forest.{bare, tree}
 use Rattle.lp_program.specs.declared.read.reader.Parameters.{Parameters}
 use Rattle.lp_program.specs.declared.read.reader.Parameters.TheVariants as parameters
-use Rattle.lp_found.specs.Inlined.{begins_inlined}
+use Rattle.lp_reading_laws.specs.Holes.Inlined.{begins_inlined}
 
 -- the first line of user code that counts, if there is one, doesn't begin as those of inlined actions
 pub record IsOtherCode (prefix code : List ℕ) : Type 0 where

@@ -8,9 +8,9 @@ use Rattle.lp_tree.specs.declared.tree.Program.{Program}
 use Rattle.lp_spelling.specs.Fillings.{Fits}
 use Rattle.lp_tree.specs.ProgramTree.{noted}
 use Rattle.lp_program.specs.Trees.{whole}
-use Rattle.lp_found.specs.Parted.{IsParted}
+use Rattle.lp_reading_laws.specs.Holes.Parted.{IsParted}
 use Rattle.lp_fitting.specs.Bodies.{BodiesSuit}
-use Rattle.lp_laws.specs.WellFormed.{HolesFill, IsNote, IsSteady, is_pattern}
+use Rattle.lp_reading_laws.specs.Printing.WellFormed.{HolesFill, IsNote, IsSteady, is_pattern}
 
 -- a text that may stand in a hole, and is not empty where it is a pattern
 abbrev pub MayStand : List ℕ → Kind → List ℕ → Type 0

@@ -1,7 +1,7 @@
 //! Bodies of actions: whether a reader tells them.
 
 ghost use Rattle.std.specs.Prelude.{◌≡◌, ◌↔◌, [], map, length, IsTrue, IfOk};
-ghost use Rattle.lp_found.specs.Inlined.{begins_inlined};
+ghost use Rattle.lp_reading_laws.specs.Holes.Inlined.{begins_inlined};
 ghost use Rattle.lp_program.specs.Parameters.{first_or, parameter_after, parameters_of};
 ghost use Rattle.lp_program.specs.Trees.{content, forest, whole};
 ghost use Rattle.lp_fitting.specs.Bodies.{BodiesSuit, IsOtherCode, SuitsBody, SuitsUser};

@@ -3,7 +3,7 @@
 ghost use Rattle.std.specs.Prelude.{◌≡◌, ◌↔◌, ◌<◌, [], get_or, length, All, IsTrue, IfOk};
 ghost use Rattle.std.specs.Str.{IsUtf8};
 ghost use Rattle.lp_spelling.specs.LineReading.{kind_of};
-ghost use Rattle.lp_laws.specs.WellFormed.{is_pattern, HolesFill};
+ghost use Rattle.lp_reading_laws.specs.Printing.WellFormed.{is_pattern, HolesFill};
 ghost use Rattle.lp_fitting.specs.Fitting.{MayStand};
 
 use lp_form::Kind;

@@ -5,8 +5,8 @@ ghost use Rattle.std.specs.Char.{is_whitespace};
 ghost use Rattle.std.specs.Str.{chars};
 ghost use Rattle.lp_write.specs.Lines.{opens};
 ghost use Rattle.lp_texts.specs.OneLine.{begins};
-ghost use Rattle.lp_laws.specs.LineTexts.{is_on_line, ends_open, IsLineText, IsSkipped};
-ghost use Rattle.lp_laws.specs.WellFormed.{IsNote, IsSteady, IsTrailing};
+ghost use Rattle.lp_reading_laws.specs.Printing.LineTexts.{is_on_line, ends_open, IsLineText, IsSkipped};
+ghost use Rattle.lp_reading_laws.specs.Printing.WellFormed.{IsNote, IsSteady, IsTrailing};
 ghost use Rattle.lp_tree.specs.ProgramTree.{noted};
 
 use lp_spelling::cursor::is_skipped;

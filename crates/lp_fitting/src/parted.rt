@@ -1,7 +1,7 @@
 //! Holes that are found again in the lines that they are printed on.
 
 ghost use Rattle.std.specs.Prelude.{◌↔◌, IsTrue, IfOk};
-ghost use Rattle.lp_found.specs.Parted.{BeginsNo, HoldsNo, IsParted};
+ghost use Rattle.lp_reading_laws.specs.Holes.Parted.{BeginsNo, HoldsNo, IsParted};
 
 use crate::fills::hole_at;
 use lp_form::Part;

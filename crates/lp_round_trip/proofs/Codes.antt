@@ -15,12 +15,12 @@ use Rattle.lp_spelling.specs.HoleEnds.{is_word}
 use Rattle.lp_spelling.proofs.Counting.{settled_counts, settled_skips}
 use Rattle.lp_spelling.proofs.Reading.{starts_ok}
 use Rattle.lp_program.specs.CodeReading.{IsCode}
-use Rattle.lp_laws.specs.LineTexts.{is_on_line}
-use Rattle.lp_laws.proofs.Lining.{line_front, line_left, line_behind}
-use Rattle.lp_found.specs.Found.{are_words}
-use Rattle.lp_found.specs.Inlined.{begins_inlined}
+use Rattle.lp_reading_laws.specs.Printing.LineTexts.{is_on_line}
+use Rattle.lp_reading_laws.proofs.Printing.Lining.{line_front, line_left, line_behind}
+use Rattle.lp_reading_laws.specs.Holes.Found.{are_words}
+use Rattle.lp_reading_laws.specs.Holes.Inlined.{begins_inlined}
 use Rattle.lp_fitting.specs.Bodies.{IsOtherCode}
-use Rattle.lp_chosen.proofs.Inlined.{others_are_no_inlined}
+use Rattle.lp_reading_laws.proofs.Choosing.Inlined.{others_are_no_inlined}
 use Rattle.lp_round_trip.specs.Codes.{CodesAreTold}
 use Rattle.lp_round_trip.proofs.Comments.{Reaches, past_spaces, past_comment, no_comment_end, on_line_right}
 

@@ -11,7 +11,7 @@ use Rattle.lp_tok.specs.declared.tok.ErrorCode.TheVariants.{UnterminatedStringLi
 use Rattle.lp_tok.specs.CodePieces.{Piece, Whole, Fault, kind_of, ended, past_maybe, after_quoted, quoted_piece, raw_string_piece, hashed_piece, raw_piece, slash_piece, code_piece}
 use Rattle.lp_tok.specs.Cut.{Splits, splits_none, splits_one}
 use Rattle.lp_spelling.specs.Counting.{is_text}
-use Rattle.lp_laws.specs.LineTexts.{is_on_line}
+use Rattle.lp_reading_laws.specs.Printing.LineTexts.{is_on_line}
 
 pub on_line_right : (a b : List ℕ) → is_on_line (a ++ b) ≡ true → is_on_line b ≡ true
 on_line_right [] b h = h

@@ -10,16 +10,16 @@ use Rattle.lp_tree.specs.declared.tree.Program.{Program}
 use Rattle.lp_write.specs.declared.rust.Options.{Options}
 use Rattle.lp_program.specs.Reads.{is_prefix}
 use Rattle.lp_program.specs.Trees.{forest, forest_within, whole}
-use Rattle.lp_found.specs.Found.{are_words}
-use Rattle.lp_found.proofs.Words.{prefix_words}
+use Rattle.lp_reading_laws.specs.Holes.Found.{are_words}
+use Rattle.lp_reading_laws.proofs.Holes.Words.{prefix_words}
 use Rattle.lp_fitting.specs.Fitting.{HolesFit}
-use Rattle.lp_laws.specs.AsRead.{IsRead}
-use Rattle.lp_laws.proofs.Existing.{each_is_read}
-use Rattle.lp_shown.specs.Laws.{AreParted}
-use Rattle.lp_chosen.specs.Laws.{told_trees, ReadsTold}
-use Rattle.lp_chosen.proofs.Existing.{never_refused}
-use Rattle.lp_chosen.proofs.Law.{chosen_is_it, programs_are_chosen}
-use Rattle.lp_printed.proofs.Law.{reads_told}
+use Rattle.lp_reading_laws.specs.Printing.AsRead.{IsRead}
+use Rattle.lp_reading_laws.proofs.Printing.Existing.{each_is_read}
+use Rattle.lp_reading_laws.specs.Texts.Laws.{AreParted}
+use Rattle.lp_reading_laws.specs.Choosing.Laws.{told_trees, ReadsTold}
+use Rattle.lp_reading_laws.proofs.Choosing.Existing.{never_refused}
+use Rattle.lp_reading_laws.proofs.Choosing.Law.{chosen_is_it, programs_are_chosen}
+use Rattle.lp_reading_laws.proofs.Printed.Law.{reads_told}
 use Rattle.lp_emit.specs.Texts.{IsEmission}
 use Rattle.lp_round_trip.proofs.Printed.{bodies_suit_told, printed_suits}
 use Rattle.lp_round_trip.specs.Laws.{FittingIsParted, EmissionTellsBodies, EmissionIsChosen, EmissionIsRead, EmissionIsNotRefused, EmissionAgreesAsRead}

@@ -19,13 +19,13 @@ use Rattle.lp_program.specs.Trees.Forest.{bare, tree}
 use Rattle.lp_program.specs.declared.read.reader.Parameters.{Parameters}
 use Rattle.lp_program.specs.declared.read.reader.Parameters.TheVariants as parameters
 use Rattle.lp_write.specs.Lines.{blanks}
-use Rattle.lp_laws.specs.AsRead.{code_read, content_read, forest_read}
-use Rattle.lp_laws.specs.TemplateTests.{has_code}
-use Rattle.lp_laws.proofs.Lining.{trim_blanks}
-use Rattle.lp_found.specs.Found.{are_words}
-use Rattle.lp_found.specs.Inlined.{begins_inlined}
+use Rattle.lp_reading_laws.specs.Printing.AsRead.{code_read, content_read, forest_read}
+use Rattle.lp_reading_laws.specs.Printing.TemplateTests.{has_code}
+use Rattle.lp_reading_laws.proofs.Printing.Lining.{trim_blanks}
+use Rattle.lp_reading_laws.specs.Holes.Found.{are_words}
+use Rattle.lp_reading_laws.specs.Holes.Inlined.{begins_inlined}
 use Rattle.lp_fitting.specs.Bodies.{BodiesSuit, IsOtherCode, SuitsBody, SuitsUser}
-use Rattle.lp_chosen.specs.Laws.{told_content, told_trees, IsBodyTold}
+use Rattle.lp_reading_laws.specs.Choosing.Laws.{told_content, told_trees, IsBodyTold}
 use Rattle.lp_round_trip.specs.Codes.{BodiesSuitTold}
 use Rattle.lp_round_trip.proofs.Codes.{codes_are_told, line_over, nothing_begun, trim_nothing}
 

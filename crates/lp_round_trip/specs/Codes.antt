@@ -1,9 +1,9 @@
 -- User code and bodies of actions that are told in every text.
 use Rattle.std.specs.Prelude.{◌≡◌, ℕ, true, List}
 use Rattle.lp_program.specs.Trees.{Content, Forest}
-use Rattle.lp_found.specs.Found.{are_words}
+use Rattle.lp_reading_laws.specs.Holes.Found.{are_words}
 use Rattle.lp_fitting.specs.Bodies.{BodiesSuit, IsOtherCode}
-use Rattle.lp_chosen.specs.Laws.{BodiesTold, IsNoInlined}
+use Rattle.lp_reading_laws.specs.Choosing.Laws.{BodiesTold, IsNoInlined}
 
 -- user code whose first line is none of inlined actions is told in every text
 abbrev pub CodesAreTold : Type 0

@@ -8,9 +8,9 @@ use Rattle.lp_program.specs.Choosing.{IsChosen, IsRefused}
 use Rattle.lp_program.specs.Trees.{whole}
 use Rattle.lp_program.specs.declared.read.reader.ReadFault.TheVariants as fault
 use Rattle.lp_fitting.specs.Fitting.{IsFitting}
-use Rattle.lp_shown.specs.Laws.{AreParted}
-use Rattle.lp_chosen.specs.Laws.{BodiesTold}
-use Rattle.lp_printed.specs.Laws.{printed_trees}
+use Rattle.lp_reading_laws.specs.Texts.Laws.{AreParted}
+use Rattle.lp_reading_laws.specs.Choosing.Laws.{BodiesTold}
+use Rattle.lp_reading_laws.specs.Printed.Laws.{printed_trees}
 use Rattle.lp_agrees.specs.Agrees.{AllAgree}
 use Rattle.lp_agrees.specs.Emission.{IsAsPrinted}
 use Rattle.lp_emit.specs.Texts.{IsEmission}

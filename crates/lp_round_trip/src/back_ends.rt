@@ -1,6 +1,6 @@
 //! The law of a back end, and what follows from it for every text that is emitted.
 
-ghost use Rattle.lp_filled.specs.BackEndLaw.{EmissionsAgree};
+ghost use Rattle.lp_back_end_laws.specs.Filled.BackEndLaw.{EmissionsAgree};
 
 use lp_ascent::AscentBackEnd;
 use lp_table::BackEnd;
@@ -10,7 +10,7 @@ use lp_table_module::TableBackEnd;
 /// program that is built with that code all runs of the module of a start are those of the stack
 /// machine over the start's tables.
 pub trait LawfulBackEnd: BackEnd {
-    ghost use Rattle.lp_filled.specs.BackEndLaw.{IsLawful};
+    ghost use Rattle.lp_back_end_laws.specs.Filled.BackEndLaw.{IsLawful};
     ghost use Rattle.lp_repr.specs.declared.repr.LrCodeGeneration.{LrCodeGeneration};
 
     /// The kind of code that it makes.

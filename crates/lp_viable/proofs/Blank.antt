@@ -20,9 +20,9 @@ use Rattle.lp_spelling.proofs.Tables.{front_blank}
 use Rattle.lp_local.proofs.Agreeing.{split_first, feeds_text, feeds-append, no_feed}
 use Rattle.lp_local.proofs.Settling.{behind_byte, before_byte}
 use Rattle.lp_program.specs.CodeReading.{without_feed, IsCode}
-use Rattle.lp_laws.specs.LineTexts.{is_on_line}
-use Rattle.lp_laws.proofs.Entries as laws
-use Rattle.lp_laws.proofs.Entries.{Gives, gives_then, gives_feed, gives_none, gives_entries}
+use Rattle.lp_reading_laws.specs.Printing.LineTexts.{is_on_line}
+use Rattle.lp_reading_laws.proofs.Printing.Entries as laws
+use Rattle.lp_reading_laws.proofs.Printing.Entries.{Gives, gives_then, gives_feed, gives_none, gives_entries}
 use Rattle.lp_viable.proofs.Least.{none_split}
 use Rattle.lp_local.proofs.Settling.{skips_first, counts_first}
 use Rattle.lp_local.proofs.Ended.{IsEnded, ended_behind}

@@ -18,8 +18,8 @@ use Rattle.lp_spelling.specs.LineReading.{kind_of}
 use Rattle.lp_program.specs.Choosing.{grown}
 use Rattle.lp_program.specs.Reads.{hole_count, is_prefix, KindsFill}
 use Rattle.lp_program.specs.Telling.{Told}
-use Rattle.lp_laws.specs.WellFormed.{is_pattern, HolesFill, IsUseText, StepFits}
-use Rattle.lp_laws.proofs.Own.{Texts}
+use Rattle.lp_reading_laws.specs.Printing.WellFormed.{is_pattern, HolesFill, IsUseText, StepFits}
+use Rattle.lp_reading_laws.proofs.Printing.Own.{Texts}
 use Rattle.lp_viable.specs.Least.{least_holes}
 use Rattle.lp_viable.specs.StepTests.{told_kind, told_kinds, may_come}
 use Rattle.lp_viable.proofs.Least.{least_fills, least_count, prefix_is, step_fits}

@@ -20,9 +20,9 @@ use Rattle.lp_program.specs.Trees.Forest.{bare, tree}
 use Rattle.lp_program.proofs.ChosenReads.{part_reads}
 use Rattle.lp_program.proofs.Prefixes.{prefix_once}
 use Rattle.lp_program.proofs.ProgramBegun.{no_prefix_utf8, no_prefix_fits}
-use Rattle.lp_chosen.proofs.Existing.{some_is_chosen}
-use Rattle.lp_chosen.proofs.Law.{chosen_is_it}
-use Rattle.lp_chosen.proofs.Showing.{shows_utf8}
+use Rattle.lp_reading_laws.proofs.Choosing.Existing.{some_is_chosen}
+use Rattle.lp_reading_laws.proofs.Choosing.Law.{chosen_is_it}
+use Rattle.lp_reading_laws.proofs.Choosing.Showing.{shows_utf8}
 use Rattle.lp_viable.specs.Dead.{RefusedIsDead, RefusedIsUntold}
 use Rattle.lp_viable.proofs.LinesPassed.{agree_within, LinesPassed, lines_passed, line_ended, ended_utf8}
 use Rattle.lp_viable.proofs.Moving.{past_ended}

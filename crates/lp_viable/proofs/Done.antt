@@ -17,7 +17,7 @@ use Rattle.lp_program.specs.Starting.{Goal, one_part, below_step, steps_left, go
 use Rattle.lp_program.specs.Telling.{Told, untold, TellsOwn}
 use Rattle.lp_program.specs.Trees.{tree_count}
 use Rattle.lp_program.specs.Trees.Forest.{bare}
-use Rattle.lp_laws.specs.TemplateTests.{has_code, is_class, is_one, exact_after}
+use Rattle.lp_reading_laws.specs.Printing.TemplateTests.{has_code, is_class, is_one, exact_after}
 use Rattle.lp_viable.specs.Least.{first_needed, least_content, trees_over, least_below, least_text, texts_over}
 use Rattle.lp_viable.specs.StepTests.{is_plain_part, known_past, tabled_past, is_going}
 use Rattle.lp_local.proofs.Ended.{IsEnded}

@@ -14,10 +14,10 @@ use Rattle.lp_texts.specs.Identifiers as identifier
 use Rattle.lp_texts.specs.OneLine.{IsOneLine}
 use Rattle.lp_spelling.specs.HoleEnds.{is_word, first_at, place}
 use Rattle.lp_spelling.specs.Fillings.{holds, is_number, is_name, is_own, is_argument, is_element, joined_within, is_joined, is_look, are_filled, fits_behind, has_shape, line_part, Fits, Fills}
-use Rattle.lp_found.proofs.Words.{ascii_at, identifier_words}
-use Rattle.lp_found.proofs.Plain.{one_line}
+use Rattle.lp_reading_laws.proofs.Holes.Words.{ascii_at, identifier_words}
+use Rattle.lp_reading_laws.proofs.Holes.Plain.{one_line}
 use Rattle.lp_program.specs.Reads.{is_prefix}
-use Rattle.lp_laws.specs.WellFormed.{is_pattern}
+use Rattle.lp_reading_laws.specs.Printing.WellFormed.{is_pattern}
 use Rattle.lp_viable.specs.Fillings.{other_letter, own_name, filling}
 
 ascii_utf8 : (t : List ℕ) → list_all (λ b. ltb b 128) t ≡ true → IsUtf8 t

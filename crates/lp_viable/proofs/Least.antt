@@ -27,15 +27,15 @@ use Rattle.lp_program.specs.Trees.{Content, Forest, tree_count}
 use Rattle.lp_program.specs.Trees.Forest.{bare, tree}
 use Rattle.lp_texts.specs.Identifiers.{is_identifier, is_word}
 use Rattle.lp_repr.specs.Names.{same_text}
-use Rattle.lp_laws.specs.LineTexts.{Counts}
-use Rattle.lp_laws.specs.TemplateTests.{has_code, is_class, has_class, exact_after, is_step_bracket, ends_next, is_sound_step}
-use Rattle.lp_laws.specs.WellFormed.{HolesFill, IsUseText, StepFits}
-use Rattle.lp_laws.proofs.Fronts.{chars_some}
-use Rattle.lp_laws.proofs.Lining.{laid}
-use Rattle.lp_laws.proofs.Bytes.{any_laid, laid_blanks, bytes-first}
-use Rattle.lp_laws.proofs.Sound.{IsPrefix, word_before, line_next}
-use Rattle.lp_laws.proofs.Own.{Ready, ready_same, ready_as, EndsTable, Texts, line_counts, own_read}
-use Rattle.lp_laws.proofs.Steps.{class_own, class_takes, class_after}
+use Rattle.lp_reading_laws.specs.Printing.LineTexts.{Counts}
+use Rattle.lp_reading_laws.specs.Printing.TemplateTests.{has_code, is_class, has_class, exact_after, is_step_bracket, ends_next, is_sound_step}
+use Rattle.lp_reading_laws.specs.Printing.WellFormed.{HolesFill, IsUseText, StepFits}
+use Rattle.lp_reading_laws.proofs.Printing.Fronts.{chars_some}
+use Rattle.lp_reading_laws.proofs.Printing.Lining.{laid}
+use Rattle.lp_reading_laws.proofs.Printing.Bytes.{any_laid, laid_blanks, bytes-first}
+use Rattle.lp_reading_laws.proofs.Printing.Sound.{IsPrefix, word_before, line_next}
+use Rattle.lp_reading_laws.proofs.Printing.Own.{Ready, ready_same, ready_as, EndsTable, Texts, line_counts, own_read}
+use Rattle.lp_reading_laws.proofs.Printing.Steps.{class_own, class_takes, class_after}
 use Rattle.lp_viable.specs.Fillings.{filling}
 use Rattle.lp_viable.specs.Least.{first_needed, needed, least_holes, least_content, trees_over, least_below, plain, own_text, texts_over, steps_text, least_text, is_fit_step, are_fit, is_used_alone, is_least}
 use Rattle.lp_viable.proofs.Fillings.{filling_fills, pattern_some}

@@ -17,18 +17,18 @@ use Rattle.lp_spelling.specs.Lines.{line_of}
 use Rattle.lp_write.specs.Lines.{Line, line_bytes, lines_bytes, indent_after}
 use Rattle.lp_write.specs.Lines.Line.{line, verbatim}
 use Rattle.lp_write.specs.Rows.{entry_piece, row_text}
-use Rattle.lp_found.proofs.Words.{ascii_at}
+use Rattle.lp_reading_laws.proofs.Holes.Words.{ascii_at}
 use Rattle.lp_program.specs.OwnLines.{hole, note_lines, own_lines}
 use Rattle.lp_program.specs.Reads.{is_prefix, may_have}
 use Rattle.lp_program.specs.TableRows.{commented, row_lines, no_note, rows_from, table_lines}
 use Rattle.lp_tree.specs.ProgramTree.{Note}
 use Rattle.lp_program.specs.Trees.{Content}
-use Rattle.lp_laws.specs.LineTests.{is_sound_line}
-use Rattle.lp_laws.specs.LineTexts.{text_in}
-use Rattle.lp_laws.specs.TemplateTests.{is_class, has_class, exact_after, is_sound_step}
-use Rattle.lp_laws.specs.WellFormed.{StepFits}
-use Rattle.lp_laws.proofs.Own.{Texts, line_counts}
-use Rattle.lp_laws.proofs.Steps.{class_own}
+use Rattle.lp_reading_laws.specs.Printing.LineTests.{is_sound_line}
+use Rattle.lp_reading_laws.specs.Printing.LineTexts.{text_in}
+use Rattle.lp_reading_laws.specs.Printing.TemplateTests.{is_class, has_class, exact_after, is_sound_step}
+use Rattle.lp_reading_laws.specs.Printing.WellFormed.{StepFits}
+use Rattle.lp_reading_laws.proofs.Printing.Own.{Texts, line_counts}
+use Rattle.lp_reading_laws.proofs.Printing.Steps.{class_own}
 use Rattle.lp_viable.specs.Least.{first_needed, needed, least_content, plain, own_text, texts_over, steps_text, least_text, is_fit_step, are_fit, is_used_alone, is_least}
 use Rattle.lp_viable.proofs.Moving.{nothing_utf8, feed_utf8}
 use Rattle.lp_viable.proofs.Least.{least_fills, prefix_is, steps_fit}

@@ -30,9 +30,9 @@ use Rattle.lp_program.specs.Trees.{Content, Forest, tree_count}
 use Rattle.lp_program.specs.Trees.Forest.{bare, tree}
 use Rattle.lp_program.proofs.Joined.{LineMoved, line_moved}
 use Rattle.lp_program.proofs.Showing.{attribute_steps, use_steps, hash_line, attribute_kind, attribute_fills, attribute_line}
-use Rattle.lp_chosen.proofs.Showing.{attribute_is, use_is}
-use Rattle.lp_chosen.proofs.Made.{made, no_trees}
-use Rattle.lp_chosen.proofs.Taking.{task_takes}
+use Rattle.lp_reading_laws.proofs.Choosing.Showing.{attribute_is, use_is}
+use Rattle.lp_reading_laws.proofs.Choosing.Made.{made, no_trees}
+use Rattle.lp_reading_laws.proofs.Choosing.Taking.{task_takes}
 use Rattle.lp_viable.specs.Held.{ContentHeld, PartsHeld}
 use Rattle.lp_viable.proofs.Moving.{use_line, use_whole, use_moved}
 

@@ -15,7 +15,7 @@ use Rattle.lp_local.proofs.Joining.{settled_on, settled_past, settled_again}
 use Rattle.lp_local.proofs.Ended.{IsEnded, ended_behind}
 use Rattle.lp_program.proofs.Joined.{LineMoved, line_moved, no_more}
 use Rattle.lp_local.proofs.Cutting.{stops_told}
-use Rattle.lp_found.proofs.Words.{ascii_at}
+use Rattle.lp_reading_laws.proofs.Holes.Words.{ascii_at}
 use Rattle.lp_program.specs.CodeReading.{IsUse, IsCode, ends_there}
 use Rattle.lp_program.specs.Reads.{TakesLine, TakesLines}
 

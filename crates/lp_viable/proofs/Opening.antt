@@ -15,7 +15,7 @@ use Rattle.lp_form.specs.declared.template.Step.TheVariants as step
 use Rattle.lp_spelling.specs.Counting.{settled}
 use Rattle.lp_spelling.specs.Lines.{line_of}
 use Rattle.lp_spelling.proofs.Counting.{settled_none}
-use Rattle.lp_laws.proofs.Forests.{length-parts}
+use Rattle.lp_reading_laws.proofs.Printing.Forests.{length-parts}
 use Rattle.lp_program.specs.Prefixes.{renaming, renamed, ShowsPrefix}
 use Rattle.lp_program.specs.Prefixes.ShowsPrefix.{behind_line}
 use Rattle.lp_program.specs.Printed.{is_member}
@@ -26,9 +26,9 @@ use Rattle.lp_program.specs.Trees.Forest.{bare, tree}
 use Rattle.lp_program.proofs.Joined.{LineMoved, line_moved}
 use Rattle.lp_program.proofs.Parts.{count_graft}
 use Rattle.lp_program.proofs.Showing.{first_line, second_line, first_spelled, second_spelled, standard_steps, program_steps}
-use Rattle.lp_chosen.proofs.Made.{made, no_trees}
-use Rattle.lp_chosen.proofs.Showing.{standard_is}
-use Rattle.lp_chosen.proofs.Taking.{task_takes}
+use Rattle.lp_reading_laws.proofs.Choosing.Made.{made, no_trees}
+use Rattle.lp_reading_laws.proofs.Choosing.Showing.{standard_is}
+use Rattle.lp_reading_laws.proofs.Choosing.Taking.{task_takes}
 use Rattle.lp_viable.specs.Held.{PartsHeld}
 use Rattle.lp_viable.specs.Least.{first_needed, needed}
 use Rattle.lp_viable.proofs.Leaves.{leaves, Kept, attributes_kept, uses_kept}

@@ -13,7 +13,7 @@ use Rattle.lp_spelling.specs.Counting.{settled}
 use Rattle.lp_program.specs.Printed.{is_member}
 use Rattle.lp_program.specs.Reads.{may_have, is_prefix}
 use Rattle.lp_program.specs.Trees.Forest.{bare, tree}
-use Rattle.lp_laws.specs.TemplateTests.{has_code}
+use Rattle.lp_reading_laws.specs.Printing.TemplateTests.{has_code}
 use Rattle.lp_viable.specs.Least.{first_member, first_needed, least_content, least_below, least_text}
 use Rattle.lp_local.proofs.Ended.{IsEnded}
 use Rattle.lp_viable.proofs.Moving.{past_ended}

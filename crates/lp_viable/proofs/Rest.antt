@@ -12,8 +12,8 @@ use Rattle.lp_form.specs.declared.class.Class.TheVariants as class_of
 use Rattle.lp_form.specs.declared.part.Part.{Part}
 use Rattle.lp_form.specs.declared.part.Part.TheVariants as part
 use Rattle.lp_form.specs.declared.template.Step.TheVariants as step
-use Rattle.lp_found.specs.Parted.{IsParted}
-use Rattle.lp_laws.proofs.Own.{Texts, ready_same}
+use Rattle.lp_reading_laws.specs.Holes.Parted.{IsParted}
+use Rattle.lp_reading_laws.proofs.Printing.Own.{Texts, ready_same}
 use Rattle.lp_spelling.specs.Counting.{settled}
 use Rattle.lp_spelling.specs.Fillings.{holds}
 use Rattle.lp_spelling.specs.HoleEnds.{first_at}

@@ -4,7 +4,7 @@ use Rattle.std.specs.Str.{IsUtf8}
 use Rattle.lp_form.specs.Templates.{steps_of, holes_of}
 use Rattle.lp_form.specs.declared.part.Part.{Part}
 use Rattle.lp_form.specs.declared.part.Part.TheVariants as part
-use Rattle.lp_found.specs.Parted.{IsParted}
+use Rattle.lp_reading_laws.specs.Holes.Parted.{IsParted}
 use Rattle.lp_spelling.specs.Counting.{settled}
 use Rattle.lp_spelling.proofs.Counting.{settled_none}
 use Rattle.lp_tree.specs.declared.tree.Program.{Program}
@@ -14,8 +14,8 @@ use Rattle.lp_program.specs.Reads.{graft, hole_count, is_prefix, IsProgram, Read
 use Rattle.lp_program.specs.Reads.Task.{trees}
 use Rattle.lp_program.specs.Trees.{Content, Forest, tree_count, whole}
 use Rattle.lp_program.specs.Trees.Forest.{bare, tree}
-use Rattle.lp_shown.specs.Laws.{AreParted}
-use Rattle.lp_chosen.specs.Laws.{told_content, told_trees, IsBodyTold, BodiesTold, ReadsTold}
+use Rattle.lp_reading_laws.specs.Texts.Laws.{AreParted}
+use Rattle.lp_reading_laws.specs.Choosing.Laws.{told_content, told_trees, IsBodyTold, BodiesTold, ReadsTold}
 use Rattle.lp_viable.specs.Held.{PartsHeld, part_count, IsHeld}
 use Rattle.lp_viable.specs.Least.{least_holes, least_content}
 use Rattle.lp_viable.proofs.Entries.{Held, held}

@@ -28,8 +28,8 @@ use Rattle.lp_program.specs.Reads.{TakesLine, TakesLines, TakesOwn, graft, parts
 use Rattle.lp_program.specs.Reads.Reads.{no_tree, one_tree, no_step, one_step}
 use Rattle.lp_program.specs.Trees.{Content, Forest, tree_count}
 use Rattle.lp_program.specs.Trees.Forest.{bare, tree}
-use Rattle.lp_laws.specs.TemplateTests.{is_one}
-use Rattle.lp_laws.proofs.Steps.{one_part}
+use Rattle.lp_reading_laws.specs.Printing.TemplateTests.{is_one}
+use Rattle.lp_reading_laws.proofs.Printing.Steps.{one_part}
 use Rattle.lp_viable.specs.StepTests.{is_table}
 use Rattle.lp_viable.specs.Held.{ContentHeld, PartsHeld, part_count}
 use Rattle.lp_program.proofs.Joined.{LineMoved, line_moved}

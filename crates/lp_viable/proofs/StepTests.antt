@@ -21,10 +21,10 @@ use Rattle.lp_write.specs.Lines.Line.{line}
 use Rattle.lp_program.specs.Printed.{takes, step_lines}
 use Rattle.lp_program.specs.Reads.{hole_count, may_have}
 use Rattle.lp_program.specs.Trees.{Content}
-use Rattle.lp_laws.specs.LineTests.{is_good, begins_so, next_so, kind_front, slot_front, text_front, is_plain_line, is_front, is_sound_line}
-use Rattle.lp_laws.specs.TemplateTests.{has_code, has_class, is_class, is_one, is_step_brace, closes_next, exact_after, is_sound_class, is_sound_step}
-use Rattle.lp_laws.proofs.Sound.{Next, line_next}
-use Rattle.lp_laws.proofs.Steps.{Closing, closing_line}
+use Rattle.lp_reading_laws.specs.Printing.LineTests.{is_good, begins_so, next_so, kind_front, slot_front, text_front, is_plain_line, is_front, is_sound_line}
+use Rattle.lp_reading_laws.specs.Printing.TemplateTests.{has_code, has_class, is_class, is_one, is_step_brace, closes_next, exact_after, is_sound_class, is_sound_step}
+use Rattle.lp_reading_laws.proofs.Printing.Sound.{Next, line_next}
+use Rattle.lp_reading_laws.proofs.Printing.Steps.{Closing, closing_line}
 use Rattle.lp_viable.specs.Least.{first_member, first_needed, plain, own_text, texts_over, steps_text, is_fit_step, are_fit}
 use Rattle.lp_viable.specs.StepTests.{told_kind, told_kinds, is_plain_part, is_table, known_past, tabled_past, is_flush_step, is_flush, may_come, is_certain, is_going}
 use Rattle.lp_viable.proofs.Contents.{length_told, kind_told, kind_left}

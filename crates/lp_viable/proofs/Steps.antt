@@ -19,9 +19,9 @@ use Rattle.lp_program.specs.Reads.Reads.{no_tree, one_step}
 use Rattle.lp_program.specs.Telling.{Told, TellsOwn}
 use Rattle.lp_program.specs.Trees.{Content, Forest, tree_count}
 use Rattle.lp_program.specs.Trees.Forest.{bare}
-use Rattle.lp_laws.specs.TemplateTests.{has_code, is_class, exact_after}
-use Rattle.lp_laws.proofs.Own.{Own, Ready, ready_same, ready_is}
-use Rattle.lp_laws.proofs.Steps.{class_takes, class_after}
+use Rattle.lp_reading_laws.specs.Printing.TemplateTests.{has_code, is_class, exact_after}
+use Rattle.lp_reading_laws.proofs.Printing.Own.{Own, Ready, ready_same, ready_is}
+use Rattle.lp_reading_laws.proofs.Printing.Steps.{class_takes, class_after}
 use Rattle.lp_viable.specs.Least.{needed, trees_over, least_below, least_text, steps_text, are_fit}
 use Rattle.lp_viable.specs.StepTests.{told_kinds, is_plain_part, is_table, known_past, tabled_past, may_come, is_certain, is_going}
 use Rattle.lp_local.proofs.Ended.{IsEnded}

@@ -16,7 +16,7 @@ use Rattle.lp_spelling.proofs.Tables.{char_cut}
 use Rattle.lp_local.proofs.Agreeing.{split_first, line_left, line_over}
 use Rattle.lp_local.proofs.Settling.{from_byte, before_byte}
 use Rattle.lp_local.proofs.Tables.{StepLeft, GoesTo, front_left, more_behind}
-use Rattle.lp_laws.proofs.Entries as laws
+use Rattle.lp_reading_laws.proofs.Printing.Entries as laws
 
 abbrev table : List ℤ → List ℕ → Table
 table numbers rest = (numbers, rest)

@@ -16,9 +16,9 @@ use Rattle.lp_program.specs.Reads.{may_have, graft, parts_in, is_prefix, Reads, 
 use Rattle.lp_program.specs.Reads.Reads.{no_tree}
 use Rattle.lp_program.specs.Trees.{Content, Forest}
 use Rattle.lp_program.specs.Trees.Forest.{bare, tree}
-use Rattle.lp_laws.specs.TemplateTests.{has_code, is_one}
-use Rattle.lp_laws.proofs.Steps.{Closing}
-use Rattle.lp_laws.proofs.Templates.{code_part}
+use Rattle.lp_reading_laws.specs.Printing.TemplateTests.{has_code, is_one}
+use Rattle.lp_reading_laws.proofs.Printing.Steps.{Closing}
+use Rattle.lp_reading_laws.proofs.Printing.Templates.{code_part}
 use Rattle.lp_viable.specs.Least.{first_member, least_content, least_below, least_text}
 use Rattle.lp_program.specs.Starting.{pairs_go_on, goes_on}
 use Rattle.lp_viable.proofs.Going.{ReadsGoOn}

@@ -19,7 +19,7 @@ use Rattle.lp_program.specs.OwnLines.{hole}
 use Rattle.lp_program.specs.Reads.{TakesLine, TakesLines, TakesOwn, Task, Reads, trees, steps}
 use Rattle.lp_program.specs.Reads.Reads.{no_tree, one_tree, no_step, one_step}
 use Rattle.lp_program.specs.Trees.{Content}
-use Rattle.lp_laws.proofs.Own.{settled_feed}
+use Rattle.lp_reading_laws.proofs.Printing.Own.{settled_feed}
 use Rattle.lp_local.proofs.Ended.{IsEnded, ended_behind}
 use Rattle.lp_program.proofs.Joined.{LineMoved, line_moved}
 use Rattle.lp_viable.proofs.Moving.{nothing_utf8, feed_utf8, code_moved, use_line, use_whole, use_moved}

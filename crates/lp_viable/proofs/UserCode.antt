@@ -19,11 +19,11 @@ use Rattle.lp_program.specs.Starting.{below_step, steps_left, goes_on}
 use Rattle.lp_program.specs.Telling.{Told, untold, TellsText, TellsOwn}
 use Rattle.lp_program.specs.Trees.{Content, Forest, tree_count}
 use Rattle.lp_program.specs.Trees.Forest.{bare, tree}
-use Rattle.lp_laws.specs.TemplateTests.{has_code}
-use Rattle.lp_laws.proofs.Fronts.{good_solid, solid_loose, loose_counts}
-use Rattle.lp_laws.proofs.Own.{Own, ready_is}
-use Rattle.lp_laws.proofs.Steps.{Closing}
-use Rattle.lp_laws.proofs.Templates.{code_part}
+use Rattle.lp_reading_laws.specs.Printing.TemplateTests.{has_code}
+use Rattle.lp_reading_laws.proofs.Printing.Fronts.{good_solid, solid_loose, loose_counts}
+use Rattle.lp_reading_laws.proofs.Printing.Own.{Own, ready_is}
+use Rattle.lp_reading_laws.proofs.Printing.Steps.{Closing}
+use Rattle.lp_reading_laws.proofs.Printing.Templates.{code_part}
 use Rattle.lp_local.proofs.Ended.{IsEnded}
 use Rattle.lp_viable.proofs.Moving.{nothing_utf8, brace_chars}
 use Rattle.lp_viable.proofs.Going.{ReadsGoOn, StartsOn, ended_on, in_own_on, in_below_on, behind_step_on, in_tree_on}

@@ -19,7 +19,7 @@ use Rattle.lp_program.specs.declared.read.reader.ReadFault.TheVariants as fault
 use Rattle.lp_program.proofs.Existing.{behind_utf8}
 use Rattle.lp_tree.specs.declared.tree.Entry.{Entry}
 use Rattle.lp_tree.specs.declared.tree.Program.{Program}
-use Rattle.lp_laws.specs.TemplateTests.{has_code}
+use Rattle.lp_reading_laws.specs.Printing.TemplateTests.{has_code}
 use Rattle.lp_viable.specs.Held.{IsHeld}
 use Rattle.lp_viable.specs.Viable.{ReadsAsTree, IsViable}
 use Rattle.lp_viable.proofs.Entries.{Held, held}

@@ -15,7 +15,7 @@ use Rattle.lp_program.specs.CodeReading.{IsUse, IsCode}
 use Rattle.lp_program.specs.OwnLines.{hole}
 use Rattle.lp_program.specs.Reads.{TakesLine, TakesLines, TakesOwn}
 use Rattle.lp_program.specs.Trees.{Content}
-use Rattle.lp_laws.proofs.Own.{Own, ready_same, ready_is, settled_feed}
+use Rattle.lp_reading_laws.proofs.Printing.Own.{Own, ready_same, ready_is, settled_feed}
 use Rattle.lp_viable.proofs.Moving.{nothing_utf8, feed_utf8, lines_left, LinesMoved, lines_moved, code_moved, use_moved}
 use Rattle.lp_viable.proofs.TableMoved.{entries_moved}
 use Rattle.lp_viable.proofs.Behind.{entries_close}

@@ -5,7 +5,7 @@ use Rattle.lp_local.specs.Agreeing.{Agree}
 use Rattle.lp_tree.specs.declared.tree.Program.{Program}
 use Rattle.lp_program.specs.declared.read.reader.ReadFault.TheVariants as fault
 use Rattle.lp_program.specs.Choosing.{IsChosen, HasNumbers, IsRefused}
-use Rattle.lp_chosen.specs.Laws.{ReadsTold}
+use Rattle.lp_reading_laws.specs.Choosing.Laws.{ReadsTold}
 
 -- no program is chosen in such a text
 abbrev pub RefusedIsDead : Type 0

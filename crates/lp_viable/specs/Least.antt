@@ -16,7 +16,7 @@ use Rattle.lp_program.specs.OwnLines.{own_lines}
 use Rattle.lp_program.specs.Reads.{may_have, text_steps}
 use Rattle.lp_program.specs.Trees.{Content, Forest}
 use Rattle.lp_program.specs.Trees.Forest.{bare, tree}
-use Rattle.lp_laws.specs.TemplateTests.{is_class, exact_after, is_sound_step}
+use Rattle.lp_reading_laws.specs.Printing.TemplateTests.{is_class, exact_after, is_sound_step}
 use Rattle.lp_viable.specs.Fillings.{filling}
 
 abbrev pub first_member : Class → Part

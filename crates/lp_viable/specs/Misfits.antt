@@ -7,7 +7,7 @@ use Rattle.lp_program.specs.declared.read.reader.ReadFault.TheVariants as fault
 use Rattle.lp_spelling.specs.LineNumbers.{past_last}
 use Rattle.lp_tree.specs.declared.tree.Program.{Program}
 use Rattle.std.specs.Str.{IsUtf8}
-use Rattle.lp_chosen.specs.Laws.{ReadsTold}
+use Rattle.lp_reading_laws.specs.Choosing.Laws.{ReadsTold}
 use Rattle.lp_viable.specs.Viable.{IsViable}
 
 -- no text with the same lines up to this one is read as a program, whatever prefix it shows: none is chosen in it, and it

@@ -10,8 +10,8 @@ use Rattle.lp_form.specs.declared.template.Step.{Step}
 use Rattle.lp_form.specs.declared.template.Step.TheVariants as step
 use Rattle.lp_spelling.specs.LineHoles.{known_in}
 use Rattle.lp_program.specs.Reads.{hole_count}
-use Rattle.lp_laws.specs.LineTests.{next_so}
-use Rattle.lp_laws.specs.TemplateTests.{has_code, exact_after, is_sound_class}
+use Rattle.lp_reading_laws.specs.Printing.LineTests.{next_so}
+use Rattle.lp_reading_laws.specs.Printing.TemplateTests.{has_code, exact_after, is_sound_class}
 use Rattle.lp_viable.specs.Least.{is_fit_step}
 
 -- a hole that is told may hold an empty pattern too

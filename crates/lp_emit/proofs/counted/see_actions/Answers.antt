@@ -1,7 +1,7 @@
 use Rattle.std.proofs.Common.{All, subst}
 use Rattle.std.proofs.lemmas.List.{take_all}
 use Rattle.std.proofs.lemmas.List.Elements.{All-more}
-use Rattle.lp_filled.specs.InMemory.{IsActionInMemory}
+use Rattle.lp_back_end_laws.specs.Filled.InMemory.{IsActionInMemory}
 use Rattle.lp_emit.proofs.counted.see_actions.Goals as goal
 
 pub loop-action-preserved : goal.loop-action-preserved

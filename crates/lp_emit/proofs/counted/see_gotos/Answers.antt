@@ -1,7 +1,7 @@
 use Rattle.std.proofs.Common.{All, subst}
 use Rattle.std.proofs.lemmas.List.{take_all}
 use Rattle.std.proofs.lemmas.List.Elements.{All-more}
-use Rattle.lp_filled.specs.InMemory.{HasOrderedGotos}
+use Rattle.lp_back_end_laws.specs.Filled.InMemory.{HasOrderedGotos}
 use Rattle.lp_emit.proofs.counted.see_gotos.Goals as goal
 
 pub loop-state-preserved : goal.loop-state-preserved

@@ -1,7 +1,7 @@
 use Rattle.std.proofs.Common.{All, subst}
 use Rattle.std.specs.Map.Iter.{deref}
 use Rattle.std.proofs.lemmas.List.Elements.{All-map}
-use Rattle.lp_filled.specs.InMemory.{IsProductionInMemory}
+use Rattle.lp_back_end_laws.specs.Filled.InMemory.{IsProductionInMemory}
 use Rattle.lp_emit.proofs.counted.see_productions.Goals as goal
 
 pub returns : goal.returns

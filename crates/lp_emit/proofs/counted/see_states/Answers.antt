@@ -2,7 +2,7 @@ use Rattle.std.proofs.Common.{All, subst}
 use Rattle.std.proofs.lemmas.List.{take_all}
 use Rattle.std.proofs.lemmas.List.Elements.{All-more}
 use Rattle.lp_repr.specs.declared.lr1.StartStates.{StartStates}
-use Rattle.lp_filled.specs.InMemory.{AreStatesInMemory, HasOrderedGotos}
+use Rattle.lp_back_end_laws.specs.Filled.InMemory.{AreStatesInMemory, HasOrderedGotos}
 use Rattle.lp_emit.proofs.counted.see_states.Goals as goal
 
 pub loop-list-preserved : goal.loop-list-preserved

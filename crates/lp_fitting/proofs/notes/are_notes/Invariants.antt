@@ -1,5 +1,5 @@
 use Rattle.std.proofs.Common.{take, All}
-use Rattle.lp_laws.specs.WellFormed.{IsNote, IsSteady}
+use Rattle.lp_reading_laws.specs.Printing.WellFormed.{IsNote, IsSteady}
 use Rattle.lp_fitting.proofs.notes.are_notes.Given as goal
 use Rattle.lp_tree.specs.ProgramTree.{noted}
 

@@ -1,6 +1,6 @@
 use Rattle.std.proofs.Common.{◌≡◌, false, take, All}
-use Rattle.lp_laws.specs.LineTexts.{ends_open}
-use Rattle.lp_laws.specs.WellFormed.{IsTrailing}
+use Rattle.lp_reading_laws.specs.Printing.LineTexts.{ends_open}
+use Rattle.lp_reading_laws.specs.Printing.WellFormed.{IsTrailing}
 use Rattle.lp_fitting.proofs.notes.are_steady.Given as goal
 
 abbrev pub invariant-loop-line : goal.invariant-loop-line

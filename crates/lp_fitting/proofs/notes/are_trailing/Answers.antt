@@ -1,5 +1,5 @@
 use Rattle.std.proofs.Common.{arith}
-use Rattle.lp_laws.specs.WellFormed.{IsTrailing}
+use Rattle.lp_reading_laws.specs.Printing.WellFormed.{IsTrailing}
 use Rattle.lp_fitting.proofs.Each.{each_goes_on, each_ends}
 use Rattle.lp_fitting.proofs.notes.are_trailing.Goals as goal
 

@@ -1,4 +1,4 @@
-use Rattle.lp_filled.proofs.Composition.{composition}
+use Rattle.lp_back_end_laws.proofs.Filled.Composition.{composition}
 use Rattle.lp_round_trip.proofs.back_ends.lawful_emissions.Goals as goal
 
 pub returns : goal.returns

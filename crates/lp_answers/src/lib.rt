@@ -1,2 +1,0 @@
-//! Laws of what the built module of table-driven code answers to the driver, question by question.
-#![tactic(auto)]

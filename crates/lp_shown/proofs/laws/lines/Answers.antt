@@ -1,8 +1,0 @@
-use Rattle.lp_shown.proofs.Existing.{lines_exist, lines_are_these}
-use Rattle.lp_shown.proofs.laws.lines.Goals as goal
-
-pub returns-clause-exist : goal.returns-clause-exist
-returns-clause-exist c = lines_exist
-
-pub returns-clause-these : goal.returns-clause-these
-returns-clause-these c = lines_are_these
