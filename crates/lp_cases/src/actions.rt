@@ -10,13 +10,17 @@ use std::alloc::AllocError;
 /// The number of each action, its type, `?` where it may fail, and what it does.
 pub fn show_actions(out: &mut String, actions: &[ActionFnDefn]) -> Result<(), AllocError> {
     for (number, action) in actions.iter().enumerate() {
-        let ty = &action.ret_type;
-        let mark = if action.fallible { "?" } else { "" };
-        write!(out, "{number}: {ty}{mark} = ")?;
-        show_kind(out, &action.kind)?;
-        out.push_str("\n")?;
+        show_action(out, number, action)?;
     }
     Ok(())
+}
+
+fn show_action(out: &mut String, number: usize, action: &ActionFnDefn) -> Result<(), AllocError> {
+    let ty = &action.ret_type;
+    write!(out, "{number}: {ty}")?;
+    out.push_str(if action.fallible { "? = " } else { " = " })?;
+    show_kind(out, &action.kind)?;
+    out.push_str("\n")
 }
 
 /// Arguments and code, a place, or an action with its parts.
@@ -57,13 +61,17 @@ fn show_parts(out: &mut String, parts: &[InlinedSymbol]) -> Result<(), AllocErro
         match part {
             InlinedSymbol::Original(symbol) => write!(out, " {symbol}")?,
             InlinedSymbol::Inlined(action, symbols) => {
-                write!(out, " {action}[")?;
-                show_symbols(out, symbols.as_slice())?;
-                out.push_str(" ]")?;
+                show_inlined(out, *action, symbols.as_slice())?
             }
         }
     }
     Ok(())
+}
+
+fn show_inlined(out: &mut String, action: usize, symbols: &[Symbol]) -> Result<(), AllocError> {
+    write!(out, " {action}[")?;
+    show_symbols(out, symbols)?;
+    out.push_str(" ]")
 }
 
 /// Symbols, each behind a blank.

@@ -41,7 +41,11 @@ pub fn verdict(alloc: Global, asked: Asked, head: &str, block: &str) -> Result<S
     let (name, rest) = block.split_once('\n').unwrap_or((block, ""));
     let (text, want) = rest.split_once("\n-- answers\n").unwrap_or((rest, ""));
     let answer = answer(alloc, asked, head, text)?;
-    let answer = answer.as_str().trim_end_matches('\n');
+    told(alloc, name, answer.as_str(), want)
+}
+
+fn told(alloc: Global, name: &str, answer: &str, want: &str) -> Result<String, AllocError> {
+    let answer = answer.trim_end_matches('\n');
     if answer == want.trim_end_matches('\n') {
         return format!(in alloc; "{name}: as stored");
     }

@@ -5,7 +5,7 @@ use lp_generated::{make_items, make_text};
 use lp_plain::{Front, FrontFault, front};
 use lp_repr::repr::Symbol;
 use lp_repr::values::RunItem;
-use lp_repr::{Escaped, Token};
+use lp_repr::{Escaped, StartStates, Token};
 use lp_write::MemorySource;
 use std::alloc::{AllocError, Global};
 
@@ -24,33 +24,58 @@ pub fn told_front(alloc: Global, file: &[u8]) -> Result<String, AllocError> {
 pub fn told_words(alloc: Global, text: &str) -> Result<String, AllocError> {
     let (words, file) = text.split_once('\n').unwrap_or((text, ""));
     let (word, number) = words.split_once(' ').unwrap_or((words, ""));
-    let mut bytes = Vec::from_slice(alloc, file.as_bytes())?;
-    let mut failing = Vec::new(alloc);
-    let mut most = 7usize;
+    let bytes = Vec::from_slice(alloc, file.as_bytes())?;
     match word {
-        "fails" => failing.push(number.parse::<u64>().unwrap_or(0))?,
-        "byte" => bytes.push(number.parse::<u8>().unwrap_or(0))?,
-        _ => {
-            bytes.resize(TOO_MANY, b' ')?;
-            most = 4096;
-        }
+        "fails" => told_failing(alloc, bytes, number),
+        "byte" => told_with_byte(alloc, bytes, number),
+        _ => told_too_many(alloc, bytes),
     }
-    told_source(alloc, MemorySource::new(bytes, most.max(1), failing))
+}
+
+fn told_failing(alloc: Global, bytes: Vec<u8>, number: &str) -> Result<String, AllocError> {
+    let mut failing = Vec::new(alloc);
+    failing.push(number.parse::<u64>().unwrap_or(0))?;
+    told_source(alloc, MemorySource::new(bytes, 7, failing))
+}
+
+fn told_with_byte(alloc: Global, bytes: Vec<u8>, number: &str) -> Result<String, AllocError> {
+    let mut bytes = bytes;
+    bytes.push(number.parse::<u8>().unwrap_or(0))?;
+    told_source(alloc, MemorySource::new(bytes, 7, Vec::new(alloc)))
+}
+
+fn told_too_many(alloc: Global, bytes: Vec<u8>) -> Result<String, AllocError> {
+    let mut bytes = bytes;
+    bytes.resize(TOO_MANY, b' ')?;
+    told_source(alloc, MemorySource::new(bytes, 4096, Vec::new(alloc)))
 }
 
 /// The grammar of so many levels, what its source gives, and a line for each of its tokens.
 pub fn told_generated(alloc: Global, levels: &str) -> Result<String, AllocError> {
     let levels = levels.parse::<u32>().unwrap_or(0).min(32);
-    let text = make_text(alloc, levels)?;
+    let mut out = told_text(alloc, levels)?;
+    let items = make_items(alloc, levels)?;
+    show_run_items(&mut out, items.as_slice())?;
+    Ok(out)
+}
+
+/// The text of the grammar, and what it gives as a source.
+fn told_text(alloc: Global, levels: u32) -> Result<String, AllocError> {
+    let mut text = make_text(alloc, levels)?;
     let told = told_front(alloc, text.as_bytes())?;
-    let mut out = format!(in alloc; "{text}{told}\n")?;
-    for item in make_items(alloc, levels)?.as_slice() {
+    text.push_str(told.as_str())?;
+    text.push_str("\n")?;
+    Ok(text)
+}
+
+fn show_run_items(out: &mut String, items: &[RunItem]) -> Result<(), AllocError> {
+    for item in items {
         match item {
             RunItem::Token(from, token, to) => write!(out, "{token}@{from}-{to}\n")?,
             RunItem::Fault(name) => write!(out, "!{name}\n")?,
         }
     }
-    Ok(out)
+    Ok(())
 }
 
 /// What a source gives.
@@ -64,18 +89,28 @@ fn told_source(alloc: Global, source: MemorySource) -> Result<String, AllocError
 
 fn shown_front(alloc: Global, front: &Front) -> Result<String, AllocError> {
     let mut line = String::from_str(alloc, "states")?;
-    for table in front.tables.as_slice() {
+    show_counts(&mut line, front.tables.as_slice())?;
+    show_tail(&mut line, front.tail.as_slice())?;
+    Ok(line)
+}
+
+/// The number of the states of each start.
+fn show_counts(out: &mut String, tables: &[StartStates]) -> Result<(), AllocError> {
+    for table in tables {
         let count = table.states.as_slice().len();
-        write!(line, " {count}")?;
+        write!(out, " {count}")?;
     }
-    match std::str::from_utf8(front.tail.as_slice()) {
+    Ok(())
+}
+
+fn show_tail(out: &mut String, tail: &[u8]) -> Result<(), AllocError> {
+    match std::str::from_utf8(tail) {
         Ok(tail) => {
             let tail = Escaped(tail);
-            write!(line, ", tail {tail}")?;
+            write!(out, ", tail {tail}")
         }
-        Err(_) => line.push_str(", a tail that is no text")?,
+        Err(_) => out.push_str(", a tail that is no text"),
     }
-    Ok(line)
 }
 
 fn shown_fault(alloc: Global, fault: &FrontFault) -> Result<String, AllocError> {
@@ -88,11 +123,14 @@ fn shown_fault(alloc: Global, fault: &FrontFault) -> Result<String, AllocError> 
             shown_conflict(alloc, *start, path.as_slice(), *token)
         }
         FrontFault::TooManyStates { start, paths } => {
-            let count = paths.as_slice().len();
-            format!(in alloc; "too many states of start {start}, {count} paths")
+            shown_too_many(alloc, *start, paths.as_slice().len())
         }
         FrontFault::Memory => Err(AllocError),
     }
+}
+
+fn shown_too_many(alloc: Global, start: usize, count: usize) -> Result<String, AllocError> {
+    format!(in alloc; "too many states of start {start}, {count} paths")
 }
 
 fn shown_conflict(
@@ -103,9 +141,13 @@ fn shown_conflict(
 ) -> Result<String, AllocError> {
     let mut line = format!(in alloc; "conflict of start {start} after")?;
     show_symbols(&mut line, path)?;
-    match token {
-        Token::Terminal(number) => write!(line, " on terminal {number}")?,
-        Token::Eof => line.push_str(" on EOF")?,
-    }
+    show_token(&mut line, token)?;
     Ok(line)
+}
+
+fn show_token(out: &mut String, token: Token) -> Result<(), AllocError> {
+    match token {
+        Token::Terminal(number) => write!(out, " on terminal {number}"),
+        Token::Eof => out.push_str(" on EOF"),
+    }
 }

@@ -11,9 +11,13 @@ pub fn told_header(alloc: Global, text: &str) -> Result<String, AllocError> {
     let Ok((_, grammar)) = lowered_of(alloc, text.as_bytes()) else {
         return String::from_str(alloc, "no grammar");
     };
+    header_of(alloc, &grammar)
+}
+
+fn header_of(alloc: Global, grammar: &Grammar) -> Result<String, AllocError> {
     let sink = MemorySink::new(alloc, 4096, 5, Vec::new(alloc))?;
     let mut out = RustWrite::new(sink, Options::default());
-    match write_header(alloc, &grammar, &mut out) {
+    match write_header(alloc, grammar, &mut out) {
         Ok(()) => String::from_utf8_lossy(alloc, out.into_inner().into_bytes().as_slice()),
         Err(error) => error.to_string(alloc),
     }
@@ -27,6 +31,14 @@ fn write_header(
     out.write_module_attributes(grammar)?;
     out.write_uses(alloc, "super::", grammar)?;
     out.write_standard_uses(alloc, "~")?;
+    write_function(alloc, grammar, out)
+}
+
+fn write_function(
+    alloc: Global,
+    grammar: &Grammar,
+    out: &mut RustWrite<MemorySink>,
+) -> Result<(), WriteError> {
     out.fn_header(alloc, &Visibility::Pub(None), String::from_str(alloc, "f")?)
         .with_grammar(grammar)?
         .with_type_parameters(&["U"])?

@@ -22,13 +22,19 @@ pub fn read_example(alloc: Global, head: &str) -> Result<Option<Example>, AllocE
     let Ok((_, grammar)) = lowered_of(alloc, text) else {
         return Ok(None);
     };
+    let states = states(alloc, file)?;
+    Ok(Some(Example { grammar, states }))
+}
+
+fn states(alloc: Global, file: &str) -> Result<Vec<Lr1State>, AllocError> {
     let mut states = Vec::new(alloc);
     for line in file.lines() {
         if let Some(moves) = line.strip_prefix("state ") {
-            states.push(state(alloc, moves)?)?;
+            let state = state(alloc, moves)?;
+            states.push(state)?;
         }
     }
-    Ok(Some(Example { grammar, states }))
+    Ok(states)
 }
 
 fn state(alloc: Global, moves: &str) -> Result<Lr1State, AllocError> {
@@ -39,16 +45,21 @@ fn state(alloc: Global, moves: &str) -> Result<Lr1State, AllocError> {
         gotos: BTreeMap::new(alloc),
     };
     for word in moves.split_whitespace() {
-        if let Some((terminal, target)) = word.split_once('>') {
-            state.shifts.insert(number(terminal), number(target))?;
-        } else if let Some((nonterminal, target)) = word.split_once(':') {
-            state.gotos.insert(number(nonterminal), number(target))?;
-        } else if let Some((production, words)) = word.split_once('@') {
-            let tokens = tokens(alloc, words)?;
-            state.reductions.0.push((tokens, number(production)))?;
-        }
+        add_move(alloc, &mut state, word)?;
     }
     Ok(state)
+}
+
+fn add_move(alloc: Global, state: &mut Lr1State, word: &str) -> Result<(), AllocError> {
+    if let Some((terminal, target)) = word.split_once('>') {
+        state.shifts.insert(number(terminal), number(target))?;
+    } else if let Some((nonterminal, target)) = word.split_once(':') {
+        state.gotos.insert(number(nonterminal), number(target))?;
+    } else if let Some((production, words)) = word.split_once('@') {
+        let tokens = tokens(alloc, words)?;
+        state.reductions.0.push((tokens, number(production)))?;
+    }
+    Ok(())
 }
 
 fn tokens(alloc: Global, words: &str) -> Result<Items<Token>, AllocError> {

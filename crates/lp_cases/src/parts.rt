@@ -1,6 +1,6 @@
 //! Types, clauses, patterns and grammars that stand alone, at place 7.
 
-use lp_plain::{PlainError, PlainGrammar, Top, parse_top, place_of};
+use lp_plain::{PlainError, PlainGrammar, PlainRule, Top, parse_top, place_of};
 use lp_repr::repr::{TokenPattern, WhereClause};
 use lp_tok::Tok;
 use std::alloc::{AllocError, Global};
@@ -19,12 +19,13 @@ pub fn shown_part(alloc: Global, word: &str, part: &str) -> Result<String, Alloc
     };
     match parse_top(alloc, first, part, OFFSET) {
         Ok(top) => shown_top(alloc, &top),
-        Err(PlainError::Parse(error)) => {
-            let place = place_of(&error);
-            format!(in alloc; "refused at {place}")
-        }
+        Err(PlainError::Parse(error)) => shown_place(alloc, place_of(&error)),
         Err(PlainError::Memory) => Err(AllocError),
     }
+}
+
+fn shown_place(alloc: Global, place: usize) -> Result<String, AllocError> {
+    format!(in alloc; "refused at {place}")
 }
 
 fn shown_top(alloc: Global, top: &Top) -> Result<String, AllocError> {
@@ -59,9 +60,13 @@ fn shown_places(alloc: Global, grammar: &PlainGrammar) -> Result<String, AllocEr
     let prefix = &grammar.prefix;
     let mut shown = format!(in alloc; "prefix {prefix}")?;
     for rule in grammar.rules.as_slice() {
-        let name = &rule.name;
-        let place = rule.place;
-        write!(shown, ", {name} at {place}")?;
+        show_rule(&mut shown, rule)?;
     }
     Ok(shown)
+}
+
+fn show_rule(out: &mut String, rule: &PlainRule) -> Result<(), AllocError> {
+    let name = &rule.name;
+    let place = rule.place;
+    write!(out, ", {name} at {place}")
 }

@@ -10,12 +10,14 @@ use std::alloc::{AllocError, Global};
 pub fn told_refusal(alloc: Global, text: &str) -> Result<String, AllocError> {
     match lowered_of(alloc, text.as_bytes()) {
         Ok(_) => String::from_str(alloc, "lowered"),
-        Err(BytesFault::Grammar { place }) => {
-            let cause = cause(alloc, text)?;
-            format!(in alloc; "refused at {place}, {cause}")
-        }
+        Err(BytesFault::Grammar { place }) => shown_refusal(alloc, text, place),
         Err(BytesFault::Memory) => Err(AllocError),
     }
+}
+
+fn shown_refusal(alloc: Global, text: &str, place: usize) -> Result<String, AllocError> {
+    let cause = cause(alloc, text)?;
+    format!(in alloc; "refused at {place}, {cause}")
 }
 
 /// Why a text is not read, or why what is read is not lowered.

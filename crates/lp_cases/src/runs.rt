@@ -9,7 +9,7 @@ use crate::machines::{Example, read_example};
 use lp_driver::{Event, Expecting, Outcome, RunError, Stop, drive};
 use lp_machine::compiled::Compiled;
 use lp_machine::events::events_of;
-use lp_machine::{Machine, TableDefinition};
+use lp_machine::{Machine, MachineRun, TableDefinition};
 use lp_plain::{TokenLine, read_token_lines};
 use lp_repr::text::Text;
 use std::alloc::{AllocError, Global};
@@ -26,43 +26,65 @@ struct Run<'r> {
 
 /// What is shown of a run over the grammar and the states of the head; each text once.
 pub fn told_run(alloc: Global, head: &str, text: &str) -> Result<String, AllocError> {
-    let Some(example) = read_example(alloc, head)? else {
-        return String::from_str(alloc, "no grammar");
-    };
+    match read_example(alloc, head)? {
+        Some(example) => told_over(alloc, &example, text),
+        None => String::from_str(alloc, "no grammar"),
+    }
+}
+
+fn told_over(alloc: Global, example: &Example, text: &str) -> Result<String, AllocError> {
     let (words, line) = text.split_once('\n').unwrap_or((text, ""));
-    let Ok(lines) = read_token_lines(alloc, &example.grammar, line.as_bytes()) else {
+    match read_token_lines(alloc, &example.grammar, line.as_bytes()) {
+        Ok(lines) => told_line(alloc, example, words, lines.as_slice()),
+        Err(_) => String::from_str(alloc, "no token line"),
+    }
+}
+
+fn told_line(
+    alloc: Global,
+    example: &Example,
+    words: &str,
+    lines: &[TokenLine],
+) -> Result<String, AllocError> {
+    let Some(line) = lines.first() else {
         return String::from_str(alloc, "no token line");
     };
     let (kind, words) = words.split_once(' ').unwrap_or((words, ""));
     let (moves, words) = words.split_once(' ').unwrap_or((words, ""));
-    let values = values(alloc, &example, words)?;
-    match lines.as_slice().first() {
-        Some(line) => shown(
-            alloc,
-            kind,
-            &Run {
-                example: &example,
-                line,
-                values: values.as_slice(),
-                moves: moves.parse::<u64>().unwrap_or(0),
-            },
-        ),
-        None => String::from_str(alloc, "no token line"),
-    }
+    let values = values(alloc, example, words)?;
+    let run = Run {
+        example,
+        line,
+        values: values.as_slice(),
+        moves: moves.parse::<u64>().unwrap_or(0),
+    };
+    shown(alloc, kind, &run)
 }
 
 /// The values of the parameters: these words, or the names of the grammar's.
 fn values(alloc: Global, example: &Example, words: &str) -> Result<Vec<Text>, AllocError> {
+    if words.split_whitespace().next().is_none() {
+        return names_of(alloc, example);
+    }
     let mut values = Vec::new(alloc);
     for word in words.split_whitespace() {
-        values.push(Text::from_str(alloc, word)?)?;
-    }
-    if values.is_empty() {
-        for parameter in example.grammar.parameters.as_slice() {
-            values.push(parameter.name.clone()?)?;
-        }
+        push_text(alloc, &mut values, word)?;
     }
     Ok(values)
+}
+
+fn names_of(alloc: Global, example: &Example) -> Result<Vec<Text>, AllocError> {
+    let mut names = Vec::new(alloc);
+    for parameter in example.grammar.parameters.as_slice() {
+        push_text(alloc, &mut names, parameter.name.as_str())?;
+    }
+    Ok(names)
+}
+
+fn push_text(alloc: Global, texts: &mut Vec<Text>, text: &str) -> Result<(), AllocError> {
+    let text = Text::from_str(alloc, text)?;
+    texts.push(text)?;
+    Ok(())
 }
 
 fn shown(alloc: Global, kind: &str, run: &Run<'_>) -> Result<String, AllocError> {
@@ -71,12 +93,15 @@ fn shown(alloc: Global, kind: &str, run: &Run<'_>) -> Result<String, AllocError>
         "machine" => moved(alloc, Expecting::Trial, run),
         "trial" => agreed(alloc, Expecting::Trial, run),
         "actions" => agreed(alloc, Expecting::Actions, run),
-        _ => {
-            let trial = agreed(alloc, Expecting::Trial, run)?;
-            let actions = agreed(alloc, Expecting::Actions, run)?;
-            joined(alloc, trial, actions)
-        }
+        _ => both(alloc, run),
     }
+}
+
+/// What they show by trials and by actions.
+fn both(alloc: Global, run: &Run<'_>) -> Result<String, AllocError> {
+    let trial = agreed(alloc, Expecting::Trial, run)?;
+    let actions = agreed(alloc, Expecting::Actions, run)?;
+    joined(alloc, trial, actions)
 }
 
 /// What the machine and the driver show.
@@ -113,18 +138,23 @@ fn machine<'r>(
 /// The machine's events and outcome.
 fn moved(alloc: Global, expecting: Expecting, run: &Run<'_>) -> Result<String, AllocError> {
     match machine(alloc, expecting, run) {
-        Ok(machine) => match machine.run(run.moves) {
-            Ok(run) => {
-                let outcome = &run.outcome;
-                let mut text = lines(alloc, run.events.as_slice())?;
-                write!(text, "{outcome}")?;
-                Ok(text)
-            }
-            Err(_) => Err(AllocError),
-        },
+        Ok(machine) => shown_end(alloc, machine.run(run.moves)),
         Err(RunError::Memory) => Err(AllocError),
         Err(_) => String::from_str(alloc, "no run"),
     }
+}
+
+fn shown_end(alloc: Global, told: Result<MachineRun, RunError>) -> Result<String, AllocError> {
+    let Ok(run) = told else {
+        return Err(AllocError);
+    };
+    let mut text = lines(alloc, run.events.as_slice())?;
+    show_outcome(&mut text, &run.outcome)?;
+    Ok(text)
+}
+
+fn show_outcome(out: &mut String, outcome: &Outcome) -> Result<(), AllocError> {
+    write!(out, "{outcome}")
 }
 
 /// The events, a line each.
@@ -138,11 +168,18 @@ fn lines(alloc: Global, events: &[Event]) -> Result<String, AllocError> {
 
 /// A sign for each of the machine's steps.
 fn stepped(alloc: Global, run: &Run<'_>) -> Result<String, AllocError> {
+    match machine(alloc, Expecting::Trial, run) {
+        Ok(machine) => signs(alloc, machine, run.moves),
+        Err(_) => Ok(String::new(alloc)),
+    }
+}
+
+fn signs(alloc: Global, machine: Machine<'_>, moves: u64) -> Result<String, AllocError> {
+    let mut machine = machine;
     let mut text = String::new(alloc);
-    if let Ok(mut machine) = machine(alloc, Expecting::Trial, run) {
-        for _move in 0..run.moves {
-            text.push_str(if machine.step()?.is_some() { "+" } else { "-" })?;
-        }
+    for _move in 0..moves {
+        let answer = machine.step()?;
+        text.push_str(if answer.is_some() { "+" } else { "-" })?;
     }
     Ok(text)
 }
@@ -157,19 +194,27 @@ fn driven(alloc: Global, expecting: Expecting, run: &Run<'_>) -> Result<String, 
         run.values,
         run.line.failing.as_slice(),
     )?;
-    let mut definition = TableDefinition::new(tables, run.line.budget);
-    let end = drive(alloc, &mut definition, run.line.items.as_slice());
-    let events = events_of(alloc, definition.calls)?;
-    ended(lines(alloc, events.as_slice())?, end)
+    driven_by(alloc, TableDefinition::new(tables, run.line.budget), run)
 }
 
-fn ended(text: String, end: Result<Outcome, Stop>) -> Result<String, AllocError> {
-    let mut text = text;
-    match end {
-        Ok(outcome) => write!(text, "{outcome}")?,
-        Err(Stop::Spent) => text.push_str("spent")?,
-        Err(Stop::Stuck) => text.push_str("stuck")?,
-        Err(Stop::Memory) => return Err(AllocError),
-    }
+fn driven_by(
+    alloc: Global,
+    definition: TableDefinition<'_>,
+    run: &Run<'_>,
+) -> Result<String, AllocError> {
+    let mut definition = definition;
+    let end = drive(alloc, &mut definition, run.line.items.as_slice());
+    let events = events_of(alloc, definition.calls)?;
+    let mut text = lines(alloc, events.as_slice())?;
+    show_end(&mut text, &end)?;
     Ok(text)
+}
+
+fn show_end(out: &mut String, end: &Result<Outcome, Stop>) -> Result<(), AllocError> {
+    match end {
+        Ok(outcome) => show_outcome(out, outcome),
+        Err(Stop::Spent) => out.push_str("spent"),
+        Err(Stop::Stuck) => out.push_str("stuck"),
+        Err(Stop::Memory) => Err(AllocError),
+    }
 }

@@ -4,7 +4,7 @@ use crate::actions::show_symbols;
 use crate::grammars::shown_grammar;
 use lp_plain::{BuildFault, BytesFault, build_states, lowered_of};
 use lp_repr::numbering::production_at;
-use lp_repr::repr::Grammar;
+use lp_repr::repr::{Grammar, Symbol};
 use lp_repr::{Item, Lr1State, ShownItem, ShownToken, Token};
 use std::alloc::{AllocError, Global};
 
@@ -21,39 +21,61 @@ fn shown_starts(alloc: Global, grammar: &Grammar) -> Result<String, AllocError> 
     let mut out = shown_grammar(alloc, grammar)?;
     for start in 0..grammar.start_nonterminals.len() {
         write!(out, "states of start {start}\n")?;
-        match build_states(alloc, grammar, start) {
-            Ok(states) => show_states(&mut out, grammar, states.as_slice())?,
-            Err(fault) => show_fault(&mut out, grammar, &fault)?,
-        }
+        show_start(alloc, &mut out, grammar, start)?;
     }
     Ok(out)
+}
+
+fn show_start(
+    alloc: Global,
+    out: &mut String,
+    grammar: &Grammar,
+    start: usize,
+) -> Result<(), AllocError> {
+    match build_states(alloc, grammar, start) {
+        Ok(states) => show_states(out, grammar, states.as_slice()),
+        Err(fault) => show_fault(out, grammar, &fault),
+    }
 }
 
 /// Why a start has no states.
 fn show_fault(out: &mut String, grammar: &Grammar, fault: &BuildFault) -> Result<(), AllocError> {
     match fault {
         BuildFault::Conflict { path, token } => {
-            out.push_str("  conflict after")?;
-            show_symbols(out, path.as_slice())?;
-            out.push_str(" on")?;
-            show_token(out, grammar, *token)?;
-            out.push_str("\n")
+            show_conflict(out, grammar, path.as_slice(), *token)
         }
         BuildFault::TooManyStates { .. } => out.push_str("  too many\n"),
         BuildFault::Memory => Err(AllocError),
     }
 }
 
+fn show_conflict(
+    out: &mut String,
+    grammar: &Grammar,
+    path: &[Symbol],
+    token: Token,
+) -> Result<(), AllocError> {
+    out.push_str("  conflict after")?;
+    show_symbols(out, path)?;
+    out.push_str(" on")?;
+    show_token(out, grammar, token)?;
+    out.push_str("\n")
+}
+
 /// Per state its items, shifts, gotos and reductions.
 fn show_states(out: &mut String, grammar: &Grammar, states: &[Lr1State]) -> Result<(), AllocError> {
     for (number, state) in states.iter().enumerate() {
         write!(out, "state {number}\n")?;
-        show_items(out, grammar, state.items.as_slice())?;
-        show_shifts(out, grammar, state)?;
-        show_gotos(out, state)?;
-        show_reductions(out, grammar, state)?;
+        show_state(out, grammar, state)?;
     }
     Ok(())
+}
+
+fn show_state(out: &mut String, grammar: &Grammar, state: &Lr1State) -> Result<(), AllocError> {
+    show_items(out, grammar, state.items.as_slice())?;
+    show_shifts(out, grammar, state)?;
+    show_gotos(out, state)?;
+    show_reductions(out, grammar, state)
 }
 
 fn show_items(out: &mut String, grammar: &Grammar, items: &[Item]) -> Result<(), AllocError> {
@@ -93,12 +115,16 @@ fn show_reductions(
 ) -> Result<(), AllocError> {
     for (tokens, production) in state.reductions.as_slice() {
         write!(out, "  reduce {production} on")?;
-        for token in tokens.as_slice() {
-            show_token(out, grammar, *token)?;
-        }
-        out.push_str("\n")?;
+        show_tokens(out, grammar, tokens.as_slice())?;
     }
     Ok(())
+}
+
+fn show_tokens(out: &mut String, grammar: &Grammar, tokens: &[Token]) -> Result<(), AllocError> {
+    for token in tokens {
+        show_token(out, grammar, *token)?;
+    }
+    out.push_str("\n")
 }
 
 fn show_token(out: &mut String, grammar: &Grammar, token: Token) -> Result<(), AllocError> {

@@ -17,21 +17,30 @@ impl Read for Broken {
 /// How many bytes each read of `abc` into two bytes gives, and each write of three pieces into three bytes takes.
 pub fn told_streams(alloc: Global) -> Result<String, AllocError> {
     let mut out = String::new(alloc);
+    show_reads(&mut out)?;
+    show_writes(&mut out)?;
+    Ok(out)
+}
+
+fn show_reads(out: &mut String) -> Result<(), AllocError> {
     let mut buf = [0u8; 2];
     let mut source = StdinSource::new(b"abc".as_slice());
     for _read in 0..3 {
         let told = source.read(&mut buf);
-        show(&mut out, "read", told)?;
+        show(out, "read", told)?;
     }
     let told = StdinSource::new(Broken).read(&mut buf);
-    show(&mut out, "broken read", told)?;
+    show(out, "broken read", told)
+}
+
+fn show_writes(out: &mut String) -> Result<(), AllocError> {
     let mut held = [0u8; 3];
     let mut sink = StdoutSink::new(Cursor::new(&mut held[..]));
     for piece in ["ab", "cd", "d"] {
         let told = sink.write(piece.as_bytes());
-        show(&mut out, "write", told)?;
+        show(out, "write", told)?;
     }
-    Ok(out)
+    Ok(())
 }
 
 fn show(out: &mut String, word: &str, told: Result<usize, Failed>) -> Result<(), AllocError> {
