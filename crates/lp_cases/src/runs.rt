@@ -6,7 +6,8 @@
 //! the names of the grammar's. The steps of the token line are those of the definition that the driver asks.
 
 use crate::machines::{Example, read_example};
-use lp_driver::{Event, Expecting, Outcome, RunError, Stop, drive};
+use lp_drive::drive;
+use lp_driver::{Event, Expecting, Outcome, RunError, Stop};
 use lp_machine::compiled::Compiled;
 use lp_machine::events::events_of;
 use lp_machine::{Machine, MachineRun, TableDefinition};

@@ -4,4 +4,3 @@ pub mod DriverState
 pub mod ParsingTurns
 pub mod RecoveryTurns
 pub mod Turns
-pub mod DriverView

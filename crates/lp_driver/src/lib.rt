@@ -1,13 +1,11 @@
-//! The driver over any definition of a parser, and the stack machine.
+//! What a driver asks a parser's definition, and what its turns mean; lp_drive makes them.
 #![tactic(auto)]
 
 pub mod answers;
 pub mod definition;
-mod driver;
 
 pub use answers::{Expecting, RunError, Simulated, Stop};
 pub use definition::Definition;
-pub use driver::drive;
 pub use lp_repr::values::{
     Event, Loc, Outcome, ParseError, Recovery, RunItem, RunParseError, Term, TokenValue, UserError,
 };

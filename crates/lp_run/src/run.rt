@@ -12,7 +12,8 @@ ghost use Rattle.lp_run.specs.RunTold.{IsCounted, outcome_finish, run_finish, fi
 use crate::enter::{Entered, enter};
 use crate::parse::Parser;
 use lp_core::{Atom, Ending, Setting, Table, Value, World, call};
-use lp_driver::{RunError, Stop, drive};
+use lp_drive::drive;
+use lp_driver::{RunError, Stop};
 use lp_maker::methods::Methods;
 use lp_repr::values::{Event, Outcome, RunItem};
 use lp_repr::{Items, Text};

@@ -2,11 +2,11 @@
 use Rattle.std.specs.Prelude.{ℕ, List, Option, Some, None, drop}
 use Rattle.lp_repr.specs.declared.values.Loc.{Loc}
 use Rattle.lp_repr.specs.declared.values.RunItem.{RunItem}
-use Rattle.lp_driver.specs.declared.driver.Held.{Held}
-use Rattle.lp_driver.specs.declared.driver.Mending.{Mending}
-use Rattle.lp_driver.specs.declared.driver.Mode.{Mode}
-use Rattle.lp_driver.specs.declared.driver.Mode.TheVariants as m
-use Rattle.lp_driver.specs.declared.driver.Stacks.{Stacks}
+use Rattle.lp_drive.specs.declared.driver.Held.{Held}
+use Rattle.lp_drive.specs.declared.driver.Mending.{Mending}
+use Rattle.lp_drive.specs.declared.driver.Mode.{Mode}
+use Rattle.lp_drive.specs.declared.driver.Mode.TheVariants as m
+use Rattle.lp_drive.specs.declared.driver.Stacks.{Stacks}
 use Rattle.lp_driver.specs.DriverState as state
 use Rattle.lp_driver.specs.DriverState.{Lookahead, Recovering, Driver}
 

@@ -1,8 +1,8 @@
 use Rattle.std.proofs.Common.{◌≡◌, ◌<◌, ◌∙◌, arith, Ok, Err}
 use Rattle.lp_driver.specs.Turns.{turn, turns, Ended}
-use Rattle.lp_driver.specs.DriverView.{driver_of}
+use Rattle.lp_drive.specs.DriverView.{driver_of}
 use Rattle.lp_driver.proofs.Falls.{falls, one_more, ended, went_on, came_to, along}
-use Rattle.lp_driver.proofs.driver.run_turns.Goals as goal
+use Rattle.lp_drive.proofs.driver.run_turns.Goals as goal
 
 pub turning-preserved : goal.turning-preserved
 turning-preserved g c =

@@ -7,12 +7,11 @@ ghost use Rattle.lp_driver.specs.DriverState.{Goes_on, shift_of, production_of, 
 ghost use Rattle.lp_driver.specs.ParsingTurns.{fails, unrecognized_token, error_at_token, error_at_end, by_action, by_eof_action, at_token, at_end, taken, pulled, pull};
 ghost use Rattle.lp_driver.specs.RecoveryTurns.{reducing, trying, trying_last, trying_from, tried, dropping, exhausted, error_start_of, error_end_of, mended, mended_by, serves_at, serves, simulated, simulating_by, asks_action, simulating};
 ghost use Rattle.lp_driver.specs.Turns.{turn, turns, run, Turned, Ended};
-ghost use Rattle.lp_driver.specs.DriverView.{driver_of, held_of, lookahead_of, recovering_of, mode_of};
+ghost use Rattle.lp_drive.specs.DriverView.{driver_of, held_of, lookahead_of, recovering_of, mode_of};
 ghost use Rattle.lp_driver.specs.Questions.{Meets};
-ghost use Rattle.lp_driver.specs.declared.driver.Mode.TheVariants.{Parsing};
+ghost use Rattle.lp_drive.specs.declared.driver.Mode.TheVariants.{Parsing};
 
-use crate::answers::{Simulated, Stop};
-use crate::definition::Definition;
+use lp_driver::{Definition, Simulated, Stop};
 use lp_repr::text::{Items, Text};
 use lp_repr::values::{
     Loc, Outcome, ParseError, Recovery, RunItem, RunParseError, SpannedToken, TokenValue, UserError,
