@@ -10,10 +10,23 @@ use std::fmt::Display;
 
 /// The grammar that a text is lowered to, or where the text is refused.
 pub fn told_grammar(alloc: Global, text: &str) -> Result<String, AllocError> {
-    match lowered_of(alloc, text.as_bytes()) {
-        Ok((_, grammar)) => shown_grammar(alloc, &grammar),
-        Err(BytesFault::Grammar { place }) => format!(in alloc; "refused at {place}"),
-        Err(BytesFault::Memory) => Err(AllocError),
+    match grammar_of(alloc, text.as_bytes()) {
+        Ok(grammar) => shown_grammar(alloc, &grammar),
+        Err(fault) => shown_place(alloc, fault),
+    }
+}
+
+/// The grammar that a text is lowered to.
+pub fn grammar_of(alloc: Global, text: &[u8]) -> Result<Grammar, BytesFault> {
+    let (_, grammar) = lowered_of(alloc, text)?;
+    Ok(grammar)
+}
+
+/// Where a text is refused.
+pub fn shown_place(alloc: Global, fault: BytesFault) -> Result<String, AllocError> {
+    match fault {
+        BytesFault::Grammar { place } => format!(in alloc; "refused at {place}"),
+        BytesFault::Memory => Err(AllocError),
     }
 }
 

@@ -2,7 +2,8 @@
 //! `state MOVE..`: `T>S` shifts terminal T to state S, `N:S` goes to state S after nonterminal N, and `P@T,..` reduces by
 //! production P on these terminals, where `$` is the end of input.
 
-use lp_plain::{cut_file, lowered_of};
+use crate::grammars::grammar_of;
+use lp_plain::cut_file;
 use lp_repr::repr::Grammar;
 use lp_repr::{Items, Lr1State, Token};
 use std::alloc::{AllocError, Global};
@@ -19,11 +20,15 @@ pub struct Example {
 pub fn read_example(alloc: Global, head: &str) -> Result<Option<Example>, AllocError> {
     let (_, file) = head.split_once('\n').unwrap_or((head, ""));
     let (text, _) = cut_file(file.as_bytes());
-    let Ok((_, grammar)) = lowered_of(alloc, text) else {
-        return Ok(None);
-    };
+    match grammar_of(alloc, text) {
+        Ok(grammar) => Ok(Some(example_over(alloc, grammar, file)?)),
+        Err(_) => Ok(None),
+    }
+}
+
+fn example_over(alloc: Global, grammar: Grammar, file: &str) -> Result<Example, AllocError> {
     let states = states(alloc, file)?;
-    Ok(Some(Example { grammar, states }))
+    Ok(Example { grammar, states })
 }
 
 fn states(alloc: Global, file: &str) -> Result<Vec<Lr1State>, AllocError> {

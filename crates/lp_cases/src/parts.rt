@@ -10,17 +10,34 @@ const OFFSET: usize = 7;
 
 /// What a part is read as, or where it is refused.
 pub fn shown_part(alloc: Global, word: &str, part: &str) -> Result<String, AllocError> {
-    let first = match word {
-        "type" => Tok::StartTypeRef,
-        "clauses" => Tok::StartGrammarWhereClauses,
-        "pattern" => Tok::StartPattern,
-        "grammar" => Tok::StartGrammar,
-        _ => return String::from_str(alloc, "no such word"),
-    };
-    match parse_top(alloc, first, part, OFFSET) {
+    match first_of(word) {
+        Some(first) => shown_read(alloc, parse_top(alloc, first, part, OFFSET)),
+        None => String::from_str(alloc, "no such word"),
+    }
+}
+
+/// The token that stands for what is asked for.
+fn first_of(word: &str) -> Option<Tok<'static>> {
+    match word {
+        "type" => Some(Tok::StartTypeRef),
+        "clauses" => Some(Tok::StartGrammarWhereClauses),
+        "pattern" => Some(Tok::StartPattern),
+        "grammar" => Some(Tok::StartGrammar),
+        _ => None,
+    }
+}
+
+fn shown_read(alloc: Global, read: Result<Top, PlainError<'_>>) -> Result<String, AllocError> {
+    match read {
         Ok(top) => shown_top(alloc, &top),
-        Err(PlainError::Parse(error)) => shown_place(alloc, place_of(&error)),
-        Err(PlainError::Memory) => Err(AllocError),
+        Err(error) => shown_error(alloc, &error),
+    }
+}
+
+fn shown_error(alloc: Global, error: &PlainError<'_>) -> Result<String, AllocError> {
+    match error {
+        PlainError::Parse(error) => shown_place(alloc, place_of(error)),
+        PlainError::Memory => Err(AllocError),
     }
 }
 

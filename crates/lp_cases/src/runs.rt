@@ -146,9 +146,13 @@ fn moved(alloc: Global, expecting: Expecting, run: &Run<'_>) -> Result<String, A
 }
 
 fn shown_end(alloc: Global, told: Result<MachineRun, RunError>) -> Result<String, AllocError> {
-    let Ok(run) = told else {
-        return Err(AllocError);
-    };
+    match told {
+        Ok(run) => shown_run(alloc, &run),
+        Err(_) => Err(AllocError),
+    }
+}
+
+fn shown_run(alloc: Global, run: &MachineRun) -> Result<String, AllocError> {
     let mut text = lines(alloc, run.events.as_slice())?;
     show_outcome(&mut text, &run.outcome)?;
     Ok(text)

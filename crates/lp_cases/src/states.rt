@@ -1,8 +1,8 @@
 //! States in lines.
 
 use crate::actions::show_symbols;
-use crate::grammars::shown_grammar;
-use lp_plain::{BuildFault, BytesFault, build_states, lowered_of};
+use crate::grammars::{grammar_of, shown_grammar, shown_place};
+use lp_plain::{BuildFault, build_states};
 use lp_repr::numbering::production_at;
 use lp_repr::repr::{Grammar, Symbol};
 use lp_repr::{Item, Lr1State, ShownItem, ShownToken, Token};
@@ -10,10 +10,9 @@ use std::alloc::{AllocError, Global};
 
 /// The grammar that a text is lowered to, and the states of each of its starts.
 pub fn told_states(alloc: Global, text: &str) -> Result<String, AllocError> {
-    match lowered_of(alloc, text.as_bytes()) {
-        Ok((_, grammar)) => shown_starts(alloc, &grammar),
-        Err(BytesFault::Grammar { place }) => format!(in alloc; "refused at {place}"),
-        Err(BytesFault::Memory) => Err(AllocError),
+    match grammar_of(alloc, text.as_bytes()) {
+        Ok(grammar) => shown_starts(alloc, &grammar),
+        Err(fault) => shown_place(alloc, fault),
     }
 }
 
