@@ -81,9 +81,10 @@ fn show_run_items(out: &mut String, items: &[RunItem]) -> Result<(), AllocError>
 /// What a source gives.
 fn told_source(alloc: Global, source: MemorySource) -> Result<String, AllocError> {
     let mut source = source;
-    match front(alloc, &mut source) {
-        Ok(front) => shown_front(alloc, &front),
-        Err(fault) => shown_fault(alloc, &fault),
+    let read = front(alloc, &mut source);
+    match &read {
+        Ok(front) => shown_front(alloc, front),
+        Err(fault) => shown_fault(alloc, fault),
     }
 }
 

@@ -10,16 +10,11 @@ use std::fmt::Display;
 
 /// The grammar that a text is lowered to, or where the text is refused.
 pub fn told_grammar(alloc: Global, text: &str) -> Result<String, AllocError> {
-    match grammar_of(alloc, text.as_bytes()) {
-        Ok(grammar) => shown_grammar(alloc, &grammar),
-        Err(fault) => shown_place(alloc, fault),
+    let read = lowered_of(alloc, text.as_bytes());
+    match &read {
+        Ok((_, grammar)) => shown_grammar(alloc, grammar),
+        Err(fault) => shown_place(alloc, *fault),
     }
-}
-
-/// The grammar that a text is lowered to.
-pub fn grammar_of(alloc: Global, text: &[u8]) -> Result<Grammar, BytesFault> {
-    let (_, grammar) = lowered_of(alloc, text)?;
-    Ok(grammar)
 }
 
 /// Where a text is refused.

@@ -1,6 +1,6 @@
 //! What stands in front of parsers.
 
-use crate::grammars::grammar_of;
+use lp_plain::lowered_of;
 use lp_repr::parse_tree::Visibility;
 use lp_repr::repr::Grammar;
 use lp_write::{MemorySink, Options, RustWrite, WriteError};
@@ -8,8 +8,9 @@ use std::alloc::{AllocError, Global};
 
 /// What is written of the grammar of a text: attributes, uses, and the header of a function.
 pub fn told_header(alloc: Global, text: &str) -> Result<String, AllocError> {
-    match grammar_of(alloc, text.as_bytes()) {
-        Ok(grammar) => header_of(alloc, &grammar),
+    let read = lowered_of(alloc, text.as_bytes());
+    match &read {
+        Ok((_, grammar)) => header_of(alloc, grammar),
         Err(_) => String::from_str(alloc, "no grammar"),
     }
 }

@@ -2,36 +2,20 @@
 //! `state MOVE..`: `T>S` shifts terminal T to state S, `N:S` goes to state S after nonterminal N, and `P@T,..` reduces by
 //! production P on these terminals, where `$` is the end of input.
 
-use crate::grammars::grammar_of;
-use lp_plain::cut_file;
 use lp_repr::repr::Grammar;
 use lp_repr::{Items, Lr1State, Token};
 use std::alloc::{AllocError, Global};
 use std::collections::BTreeMap;
 
 /// A grammar, and the states of a start.
-#[derive(Drop)]
-pub struct Example {
-    pub grammar: Grammar,
-    pub states: Vec<Lr1State>,
+#[derive(Clone, Copy)]
+pub struct Example<'e> {
+    pub grammar: &'e Grammar,
+    pub states: &'e [Lr1State],
 }
 
-/// The grammar and the states behind the first line; none where the grammar is refused.
-pub fn read_example(alloc: Global, head: &str) -> Result<Option<Example>, AllocError> {
-    let (_, file) = head.split_once('\n').unwrap_or((head, ""));
-    let (text, _) = cut_file(file.as_bytes());
-    match grammar_of(alloc, text) {
-        Ok(grammar) => Ok(Some(example_over(alloc, grammar, file)?)),
-        Err(_) => Ok(None),
-    }
-}
-
-fn example_over(alloc: Global, grammar: Grammar, file: &str) -> Result<Example, AllocError> {
-    let states = states(alloc, file)?;
-    Ok(Example { grammar, states })
-}
-
-fn states(alloc: Global, file: &str) -> Result<Vec<Lr1State>, AllocError> {
+/// The states of the lines of a file.
+pub fn states(alloc: Global, file: &str) -> Result<Vec<Lr1State>, AllocError> {
     let mut states = Vec::new(alloc);
     for line in file.lines() {
         if let Some(moves) = line.strip_prefix("state ") {

@@ -11,7 +11,7 @@ const OFFSET: usize = 7;
 /// What a part is read as, or where it is refused.
 pub fn shown_part(alloc: Global, word: &str, part: &str) -> Result<String, AllocError> {
     match first_of(word) {
-        Some(first) => shown_read(alloc, parse_top(alloc, first, part, OFFSET)),
+        Some(first) => shown_read(alloc, &parse_top(alloc, first, part, OFFSET)),
         None => String::from_str(alloc, "no such word"),
     }
 }
@@ -27,10 +27,10 @@ fn first_of(word: &str) -> Option<Tok<'static>> {
     }
 }
 
-fn shown_read(alloc: Global, read: Result<Top, PlainError<'_>>) -> Result<String, AllocError> {
+fn shown_read(alloc: Global, read: &Result<Top, PlainError<'_>>) -> Result<String, AllocError> {
     match read {
-        Ok(top) => shown_top(alloc, &top),
-        Err(error) => shown_error(alloc, &error),
+        Ok(top) => shown_top(alloc, top),
+        Err(error) => shown_error(alloc, error),
     }
 }
 

@@ -5,20 +5,22 @@
 //! else `+`. Then comes how many moves the machine makes at most, and then the values of parameters, where they aren't
 //! the names of the grammar's. The steps of the token line are those of the definition that the driver asks.
 
-use crate::machines::{Example, read_example};
+use crate::machines::{Example, states};
 use lp_drive::drive;
 use lp_driver::{Event, Expecting, Outcome, RunError, Stop};
+use lp_machine::calls::Call;
 use lp_machine::compiled::Compiled;
 use lp_machine::events::events_of;
 use lp_machine::{Machine, MachineRun, TableDefinition};
-use lp_plain::{TokenLine, read_token_lines};
-use lp_repr::text::Text;
+use lp_plain::{TokenLine, cut_file, lowered_of, read_token_lines};
+use lp_repr::repr::Grammar;
+use lp_repr::text::{Items, Text};
 use std::alloc::{AllocError, Global};
 
 /// A run over an example.
 #[derive(Clone, Copy)]
 struct Run<'r> {
-    example: &'r Example,
+    example: &'r Example<'r>,
     line: &'r TokenLine,
     values: &'r [Text],
     /// How many moves the machine makes at most.
@@ -27,15 +29,30 @@ struct Run<'r> {
 
 /// What is shown of a run over the grammar and the states of the head; each text once.
 pub fn told_run(alloc: Global, head: &str, text: &str) -> Result<String, AllocError> {
-    match read_example(alloc, head)? {
-        Some(example) => told_over(alloc, &example, text),
-        None => String::from_str(alloc, "no grammar"),
+    let (_, file) = head.split_once('\n').unwrap_or((head, ""));
+    let read = lowered_of(alloc, cut_file(file.as_bytes()).0);
+    match &read {
+        Ok((_, grammar)) => told_with(alloc, grammar, file, text),
+        Err(_) => String::from_str(alloc, "no grammar"),
     }
 }
 
-fn told_over(alloc: Global, example: &Example, text: &str) -> Result<String, AllocError> {
+/// With the states that stand behind the grammar in its file.
+fn told_with(
+    alloc: Global,
+    grammar: &Grammar,
+    file: &str,
+    text: &str,
+) -> Result<String, AllocError> {
+    let states = states(alloc, file)?;
+    let states = states.as_slice();
+    told_over(alloc, &Example { grammar, states }, text)
+}
+
+fn told_over(alloc: Global, example: &Example<'_>, text: &str) -> Result<String, AllocError> {
     let (words, line) = text.split_once('\n').unwrap_or((text, ""));
-    match read_token_lines(alloc, &example.grammar, line.as_bytes()) {
+    let read = read_token_lines(alloc, example.grammar, line.as_bytes());
+    match &read {
         Ok(lines) => told_line(alloc, example, words, lines.as_slice()),
         Err(_) => String::from_str(alloc, "no token line"),
     }
@@ -43,7 +60,7 @@ fn told_over(alloc: Global, example: &Example, text: &str) -> Result<String, All
 
 fn told_line(
     alloc: Global,
-    example: &Example,
+    example: &Example<'_>,
     words: &str,
     lines: &[TokenLine],
 ) -> Result<String, AllocError> {
@@ -63,7 +80,7 @@ fn told_line(
 }
 
 /// The values of the parameters: these words, or the names of the grammar's.
-fn values(alloc: Global, example: &Example, words: &str) -> Result<Vec<Text>, AllocError> {
+fn values(alloc: Global, example: &Example<'_>, words: &str) -> Result<Vec<Text>, AllocError> {
     if words.split_whitespace().next().is_none() {
         return names_of(alloc, example);
     }
@@ -74,7 +91,7 @@ fn values(alloc: Global, example: &Example, words: &str) -> Result<Vec<Text>, Al
     Ok(values)
 }
 
-fn names_of(alloc: Global, example: &Example) -> Result<Vec<Text>, AllocError> {
+fn names_of(alloc: Global, example: &Example<'_>) -> Result<Vec<Text>, AllocError> {
     let mut names = Vec::new(alloc);
     for parameter in example.grammar.parameters.as_slice() {
         push_text(alloc, &mut names, parameter.name.as_str())?;
@@ -127,8 +144,8 @@ fn machine<'r>(
 ) -> Result<Machine<'r>, RunError> {
     Machine::new(
         alloc,
-        &run.example.grammar,
-        run.example.states.as_slice(),
+        run.example.grammar,
+        run.example.states,
         expecting,
         run.line.items.as_slice(),
         run.values,
@@ -139,15 +156,21 @@ fn machine<'r>(
 /// The machine's events and outcome.
 fn moved(alloc: Global, expecting: Expecting, run: &Run<'_>) -> Result<String, AllocError> {
     match machine(alloc, expecting, run) {
-        Ok(machine) => shown_end(alloc, machine.run(run.moves)),
-        Err(RunError::Memory) => Err(AllocError),
-        Err(_) => String::from_str(alloc, "no run"),
+        Ok(machine) => shown_end(alloc, &machine.run(run.moves)),
+        Err(error) => unrun(alloc, error),
     }
 }
 
-fn shown_end(alloc: Global, told: Result<MachineRun, RunError>) -> Result<String, AllocError> {
+fn unrun(alloc: Global, error: RunError) -> Result<String, AllocError> {
+    match error {
+        RunError::Memory => Err(AllocError),
+        _ => String::from_str(alloc, "no run"),
+    }
+}
+
+fn shown_end(alloc: Global, told: &Result<MachineRun, RunError>) -> Result<String, AllocError> {
     match told {
-        Ok(run) => shown_run(alloc, &run),
+        Ok(run) => shown_run(alloc, run),
         Err(_) => Err(AllocError),
     }
 }
@@ -173,45 +196,50 @@ fn lines(alloc: Global, events: &[Event]) -> Result<String, AllocError> {
 
 /// A sign for each of the machine's steps.
 fn stepped(alloc: Global, run: &Run<'_>) -> Result<String, AllocError> {
-    match machine(alloc, Expecting::Trial, run) {
+    let mut made = machine(alloc, Expecting::Trial, run);
+    match &mut made {
         Ok(machine) => signs(alloc, machine, run.moves),
         Err(_) => Ok(String::new(alloc)),
     }
 }
 
-fn signs(alloc: Global, machine: Machine<'_>, moves: u64) -> Result<String, AllocError> {
-    let mut machine = machine;
+fn signs(alloc: Global, machine: &mut Machine<'_>, moves: u64) -> Result<String, AllocError> {
     let mut text = String::new(alloc);
     for _move in 0..moves {
-        let answer = machine.step()?;
-        text.push_str(if answer.is_some() { "+" } else { "-" })?;
+        text.push_str(sign(machine)?)?;
     }
     Ok(text)
+}
+
+/// The sign of a step.
+fn sign(machine: &mut Machine<'_>) -> Result<&'static str, AllocError> {
+    let outcome = machine.step()?;
+    Ok(if outcome.is_some() { "+" } else { "-" })
 }
 
 /// The driver's events and outcome, over a definition by the tables.
 fn driven(alloc: Global, expecting: Expecting, run: &Run<'_>) -> Result<String, AllocError> {
     let tables = Compiled::new(
         alloc,
-        &run.example.grammar,
-        run.example.states.as_slice(),
+        run.example.grammar,
+        run.example.states,
         expecting,
         run.values,
         run.line.failing.as_slice(),
     )?;
-    driven_by(alloc, TableDefinition::new(tables, run.line.budget), run)
+    let mut definition = TableDefinition::new(tables, run.line.budget);
+    let end = drive(alloc, &mut definition, run.line.items.as_slice());
+    shown_driven(alloc, definition.calls, &end)
 }
 
-fn driven_by(
+fn shown_driven(
     alloc: Global,
-    definition: TableDefinition<'_>,
-    run: &Run<'_>,
+    calls: Items<Call>,
+    end: &Result<Outcome, Stop>,
 ) -> Result<String, AllocError> {
-    let mut definition = definition;
-    let end = drive(alloc, &mut definition, run.line.items.as_slice());
-    let events = events_of(alloc, definition.calls)?;
+    let events = events_of(alloc, calls)?;
     let mut text = lines(alloc, events.as_slice())?;
-    show_end(&mut text, &end)?;
+    show_end(&mut text, end)?;
     Ok(text)
 }
 

@@ -1,8 +1,8 @@
 //! States in lines.
 
 use crate::actions::show_symbols;
-use crate::grammars::{grammar_of, shown_grammar, shown_place};
-use lp_plain::{BuildFault, build_states};
+use crate::grammars::{shown_grammar, shown_place};
+use lp_plain::{BuildFault, build_states, lowered_of};
 use lp_repr::numbering::production_at;
 use lp_repr::repr::{Grammar, Symbol};
 use lp_repr::{Item, Lr1State, ShownItem, ShownToken, Token};
@@ -10,9 +10,10 @@ use std::alloc::{AllocError, Global};
 
 /// The grammar that a text is lowered to, and the states of each of its starts.
 pub fn told_states(alloc: Global, text: &str) -> Result<String, AllocError> {
-    match grammar_of(alloc, text.as_bytes()) {
-        Ok(grammar) => shown_starts(alloc, &grammar),
-        Err(fault) => shown_place(alloc, fault),
+    let read = lowered_of(alloc, text.as_bytes());
+    match &read {
+        Ok((_, grammar)) => shown_starts(alloc, grammar),
+        Err(fault) => shown_place(alloc, *fault),
     }
 }
 
@@ -31,9 +32,10 @@ fn show_start(
     grammar: &Grammar,
     start: usize,
 ) -> Result<(), AllocError> {
-    match build_states(alloc, grammar, start) {
+    let built = build_states(alloc, grammar, start);
+    match &built {
         Ok(states) => show_states(out, grammar, states.as_slice()),
-        Err(fault) => show_fault(out, grammar, &fault),
+        Err(fault) => show_fault(out, grammar, fault),
     }
 }
 
