@@ -1,6 +1,7 @@
 //! What could stand at a place: what is put there and read on.
 
 use lp_reading::parse_grammar;
+use lp_syntax::PlainGrammar;
 use lp_types::{PlainError, place_of};
 use std::alloc::{AllocError, Global};
 
@@ -122,9 +123,15 @@ fn add(
 /// Whether a text goes on with what is put behind it: then no error is at its first token.
 fn goes_on(alloc: Global, front: &str, spelled: &str) -> Result<bool, AllocError> {
     let text = format!(in alloc; "{front}\n{spelled}")?;
-    match parse_grammar(alloc, text.as_str()) {
-        Ok(_) => Ok(true),
-        Err(PlainError::Parse(error)) => Ok(place_of(&error) > front.len().saturating_add(1)),
-        Err(PlainError::Memory) => Ok(false),
+    let behind = front.len().saturating_add(1);
+    Ok(is_past(&parse_grammar(alloc, text.as_str()), behind))
+}
+
+/// Whether there is no error, or one behind a place.
+fn is_past(read: &Result<PlainGrammar, PlainError<'_>>, place: usize) -> bool {
+    match read {
+        Ok(_) => true,
+        Err(PlainError::Parse(error)) => place_of(error) > place,
+        Err(PlainError::Memory) => false,
     }
 }

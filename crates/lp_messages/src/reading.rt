@@ -7,6 +7,7 @@ use crate::page::Message;
 use lp_lines::cut_file;
 use lp_lower::lower;
 use lp_reading::parse_grammar;
+use lp_syntax::PlainGrammar;
 use lp_tok::ErrorCode;
 use lp_types::{ParseError, PlainError, Span, Tokens, place_of};
 use std::alloc::{AllocError, Global};
@@ -16,24 +17,48 @@ use std::str;
 pub fn grammar_message(alloc: Global, file: &[u8]) -> Result<Message, AllocError> {
     let (bytes, _) = cut_file(file);
     match str::from_utf8(bytes) {
-        Err(error) => {
-            let place = error.valid_up_to();
-            let title = String::from_str(alloc, "a byte that is no text")?;
-            let mut message = Message::new(alloc, Some(Span(place, place)), title);
-            message.note(alloc, "help", "save the file as UTF-8")?;
-            Ok(message)
+        Err(error) => untold(alloc, error.valid_up_to()),
+        Ok(text) => text_message(alloc, text),
+    }
+}
+
+/// A byte that is no text stands at this place.
+fn untold(alloc: Global, place: usize) -> Result<Message, AllocError> {
+    let span = Span(place, place);
+    told(
+        alloc,
+        span,
+        "a byte that is no text",
+        "",
+        "save the file as UTF-8",
+    )
+}
+
+/// Why a text gives no grammar.
+fn text_message(alloc: Global, text: &str) -> Result<Message, AllocError> {
+    read_message(alloc, text, &parse_grammar(alloc, text))
+}
+
+fn read_message(
+    alloc: Global,
+    text: &str,
+    read: &Result<PlainGrammar, PlainError<'_>>,
+) -> Result<Message, AllocError> {
+    match read {
+        Err(PlainError::Memory) => Err(AllocError),
+        Err(PlainError::Parse(error)) => misread(alloc, text, error),
+        Ok(plain) => plain_message(alloc, text, plain),
+    }
+}
+
+/// Why a plain grammar gives none.
+fn plain_message(alloc: Global, text: &str, plain: &PlainGrammar) -> Result<Message, AllocError> {
+    match lower(alloc, plain).err() {
+        Some(fault) => unlowered(alloc, text, plain, fault),
+        None => {
+            let title = String::from_str(alloc, "this is no grammar file")?;
+            Ok(Message::new(alloc, None, title))
         }
-        Ok(text) => match parse_grammar(alloc, text) {
-            Err(PlainError::Memory) => Err(AllocError),
-            Err(PlainError::Parse(error)) => misread(alloc, text, &error),
-            Ok(plain) => match lower(alloc, &plain) {
-                Err(fault) => unlowered(alloc, text, &plain, fault),
-                Ok(_) => {
-                    let title = String::from_str(alloc, "this is no grammar file")?;
-                    Ok(Message::new(alloc, None, title))
-                }
-            },
-        },
     }
 }
 

@@ -57,11 +57,7 @@ pub fn message(
             "there isn't enough memory",
             "types and patterns that nest more than 400 deep are answered so too",
         )?,
-        _ => match lowered_of(alloc, cut_file(file).0) {
-            Ok((plain, grammar)) => over_grammar(alloc, file, &plain, &grammar, status)?,
-            Err(BytesFault::Memory) => return Err(AllocError),
-            Err(BytesFault::Grammar { .. }) => grammar_message(alloc, file)?,
-        },
+        _ => over_file(alloc, file, status)?,
     };
     shown(alloc, name, text_of(file), "error", &message)
 }
@@ -70,6 +66,24 @@ fn said(alloc: Global, title: &str, note: &str) -> Result<Message, AllocError> {
     let mut message = Message::new(alloc, None, String::from_str(alloc, title)?);
     message.note(alloc, "note", note)?;
     Ok(message)
+}
+
+/// The message on a file whose grammar lowers.
+fn over_file(alloc: Global, file: &[u8], status: &Status) -> Result<Message, AllocError> {
+    over_read(alloc, file, &lowered_of(alloc, cut_file(file).0), status)
+}
+
+fn over_read(
+    alloc: Global,
+    file: &[u8],
+    read: &Result<(PlainGrammar, Grammar), BytesFault>,
+    status: &Status,
+) -> Result<Message, AllocError> {
+    match read {
+        Ok((plain, grammar)) => over_grammar(alloc, file, plain, grammar, status),
+        Err(BytesFault::Memory) => Err(AllocError),
+        Err(BytesFault::Grammar { .. }) => grammar_message(alloc, file),
+    }
 }
 
 /// The message on a grammar that lowers.
