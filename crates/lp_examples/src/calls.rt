@@ -33,11 +33,22 @@ pub fn answer_of(alloc: Global, case: &Case<'_>) -> Result<Answer, AllocError> {
         "message" => tool::message_on(alloc, file),
         words => match words.split_once(' ').unwrap_or((words, "")) {
             ("tool", words) => tool::run_words(alloc, words, file),
-            (call, words) => match example_of(alloc, case.file, case.changes)? {
-                None => Answer::ended(alloc, "no grammar"),
-                Some(example) => answer_over(alloc, call, words, case, &example),
-            },
+            (call, words) => answer_with(alloc, call, words, case),
         },
+    }
+}
+
+/// What a call over the grammar of a case answers.
+fn answer_with(
+    alloc: Global,
+    call: &str,
+    words: &str,
+    case: &Case<'_>,
+) -> Result<Answer, AllocError> {
+    let example = example_of(alloc, case.file, case.changes)?;
+    match &example {
+        Some(example) => answer_over(alloc, call, words, case, example),
+        None => Answer::ended(alloc, "no grammar"),
     }
 }
 

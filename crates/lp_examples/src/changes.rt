@@ -49,21 +49,37 @@ pub struct Example {
 
 /// The grammar of a file with its states, changed; no states where it has no tables.
 pub fn example_of(alloc: Global, file: &str, changes: &str) -> Result<Option<Example>, AllocError> {
-    let (text, _) = cut_file(file.as_bytes());
-    let Ok((_, grammar)) = lowered_of(alloc, text) else {
-        return Ok(None);
-    };
-    let tables = match tables_of(alloc, &grammar) {
-        Ok(tables) => tables,
-        Err(_) => Vec::new(alloc),
-    };
+    match lowered_of(alloc, cut_file(file.as_bytes()).0) {
+        Ok(both) => example_over(alloc, both.1, changes),
+        Err(_) => Ok(None),
+    }
+}
+
+fn example_over(
+    alloc: Global,
+    grammar: Grammar,
+    changes: &str,
+) -> Result<Option<Example>, AllocError> {
+    let tables = tables_or_none(alloc, &grammar);
     let mut example = Example { grammar, tables };
+    change_all(alloc, &mut example, changes)?;
+    Ok(Some(example))
+}
+
+fn tables_or_none(alloc: Global, grammar: &Grammar) -> Vec<StartStates> {
+    match tables_of(alloc, grammar).ok() {
+        Some(tables) => tables,
+        None => Vec::new(alloc),
+    }
+}
+
+fn change_all(alloc: Global, example: &mut Example, changes: &str) -> Result<(), AllocError> {
     for line in changes.lines() {
         if let Ok(line) = apply_string_escapes(alloc, line, 0) {
-            change(alloc, &mut example, line.into_owned(alloc)?.as_str())?;
+            change(alloc, example, line.into_owned(alloc)?.as_str())?;
         }
     }
-    Ok(Some(example))
+    Ok(())
 }
 
 /// The states of the first start.

@@ -1,7 +1,7 @@
 //! Whether an answer is the one that is stored.
 
 use crate::cases::{Case, Want};
-use crate::changes::example_of;
+use crate::changes::{Example, example_of};
 use crate::emission::text_of;
 use crate::writers::Answer;
 use std::alloc::{AllocError, Global};
@@ -70,10 +70,20 @@ fn meets(
 
 /// Whether what is printed stands in the text of all parsers of the call's grammar.
 fn stands_in_text(alloc: Global, case: &Case<'_>, output: &str) -> Result<bool, AllocError> {
-    let Some(example) = example_of(alloc, case.file, case.changes)? else {
-        return Ok(false);
-    };
-    let text = text_of(alloc, case.words, &example)?;
+    let example = example_of(alloc, case.file, case.changes)?;
+    match &example {
+        Some(example) => stands_in(alloc, case, example, output),
+        None => Ok(false),
+    }
+}
+
+fn stands_in(
+    alloc: Global,
+    case: &Case<'_>,
+    example: &Example,
+    output: &str,
+) -> Result<bool, AllocError> {
+    let text = text_of(alloc, case.words, example)?;
     let lines = format!(in alloc; "\n{output}")?;
     Ok(text.as_str().contains(lines.as_str()))
 }

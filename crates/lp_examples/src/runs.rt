@@ -4,7 +4,7 @@ use crate::cases::Case;
 use crate::changes::Example;
 use crate::emission::emitted;
 use crate::writers::{Answer, words_of};
-use lp_plain::{cut_file, read_token_lines};
+use lp_plain::{TokenLine, cut_file, read_token_lines};
 use lp_repr::Text;
 use lp_repr::repr::Grammar;
 use lp_tool::{TextRunFault, run_text};
@@ -24,17 +24,38 @@ pub fn runs_of(
     }
     let changed = changed_text(alloc, case, text.output.as_str())?;
     let (_, tail) = cut_file(case.file.as_bytes());
-    let Ok(lines) = read_token_lines(alloc, &example.grammar, tail) else {
-        return Answer::ended(alloc, "token line");
-    };
-    let values = values(alloc, words, &example.grammar)?;
-    match run_text(alloc, changed.as_str(), lines.as_slice(), values.as_slice()) {
-        Ok(blocks) => Ok(Answer {
-            end: String::from_str(alloc, "ok")?,
-            output: String::from_utf8_lossy(alloc, blocks.as_slice())?,
-        }),
+    let read = read_token_lines(alloc, &example.grammar, tail);
+    match &read {
+        Ok(lines) => runs_by(
+            alloc,
+            words,
+            &example.grammar,
+            changed.as_str(),
+            lines.as_slice(),
+        ),
+        Err(_) => Answer::ended(alloc, "token line"),
+    }
+}
+
+/// The blocks of these token lines.
+fn runs_by(
+    alloc: Global,
+    words: &str,
+    grammar: &Grammar,
+    text: &str,
+    lines: &[TokenLine],
+) -> Result<Answer, AllocError> {
+    let values = values(alloc, words, grammar)?;
+    match run_text(alloc, text, lines, values.as_slice()) {
+        Ok(blocks) => answer_of_blocks(alloc, blocks.as_slice()),
         Err(fault) => without_runs(alloc, fault),
     }
+}
+
+fn answer_of_blocks(alloc: Global, blocks: &[u8]) -> Result<Answer, AllocError> {
+    let end = String::from_str(alloc, "ok")?;
+    let output = String::from_utf8_lossy(alloc, blocks)?;
+    Ok(Answer { end, output })
 }
 
 /// Why there are no runs.
