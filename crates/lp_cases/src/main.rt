@@ -10,6 +10,7 @@ mod headers;
 mod kinds;
 mod machines;
 mod parts;
+mod pushes;
 mod refusals;
 mod runs;
 mod states;
@@ -21,7 +22,7 @@ use std::rt::Files;
 use std::{fs, io};
 
 /// The files of texts, by name, each with what is asked of its texts.
-const FILES: [(&str, Asked); 30] = [
+const FILES: [(&str, Asked); 31] = [
     ("tokens", Asked::Words),
     ("words", Asked::Words),
     ("parts", Asked::Words),
@@ -39,6 +40,7 @@ const FILES: [(&str, Asked); 30] = [
     ("headers", Asked::Header),
     ("streams", Asked::Streams),
     ("machines/one_token", Asked::Run),
+    ("machines/two_tokens", Asked::Run),
     ("machines/start_on_a_token", Asked::Run),
     ("machines/no_goto", Asked::Run),
     ("machines/empty_rule", Asked::Run),

@@ -2,10 +2,12 @@
 //!
 //! A run is a line of words, and a token line. The words are, first, `trial` or `actions` for the expected lists, or
 //! `both`; `machine` for a machine alone; or `stepped`, for a sign for each of its steps, `-` where it answers nothing,
-//! else `+`. Then comes how many moves the machine makes at most, and then the values of parameters, where they aren't
-//! the names of the grammar's. The steps of the token line are those of the definition that the driver asks.
+//! else `+`; or `saved`, for a parser that takes its items one at a time. Then comes how many moves the machine makes at
+//! most, and then the values of parameters, where they aren't the names of the grammar's. The steps of the token line are
+//! those of the definition that the driver asks.
 
 use crate::machines::{Example, read_example};
+use crate::pushes::told_saved;
 use lp_driver::{Event, Expecting, Outcome, RunError, Stop, drive};
 use lp_machine::compiled::Compiled;
 use lp_machine::events::events_of;
@@ -16,12 +18,12 @@ use std::alloc::{AllocError, Global};
 
 /// A run over an example.
 #[derive(Clone, Copy)]
-struct Run<'r> {
-    example: &'r Example,
-    line: &'r TokenLine,
-    values: &'r [Text],
+pub struct Run<'r> {
+    pub example: &'r Example,
+    pub line: &'r TokenLine,
+    pub values: &'r [Text],
     /// How many moves the machine makes at most.
-    moves: u64,
+    pub moves: u64,
 }
 
 /// What is shown of a run over the grammar and the states of the head; each text once.
@@ -90,6 +92,7 @@ fn push_text(alloc: Global, texts: &mut Vec<Text>, text: &str) -> Result<(), All
 fn shown(alloc: Global, kind: &str, run: &Run<'_>) -> Result<String, AllocError> {
     match kind {
         "stepped" => stepped(alloc, run),
+        "saved" => told_saved(alloc, run),
         "machine" => moved(alloc, Expecting::Trial, run),
         "trial" => agreed(alloc, Expecting::Trial, run),
         "actions" => agreed(alloc, Expecting::Actions, run),
@@ -153,12 +156,13 @@ fn shown_end(alloc: Global, told: Result<MachineRun, RunError>) -> Result<String
     Ok(text)
 }
 
-fn show_outcome(out: &mut String, outcome: &Outcome) -> Result<(), AllocError> {
+/// An outcome.
+pub fn show_outcome(out: &mut String, outcome: &Outcome) -> Result<(), AllocError> {
     write!(out, "{outcome}")
 }
 
 /// The events, a line each.
-fn lines(alloc: Global, events: &[Event]) -> Result<String, AllocError> {
+pub fn lines(alloc: Global, events: &[Event]) -> Result<String, AllocError> {
     let mut text = String::new(alloc);
     for event in events {
         write!(text, "{event}\n")?;

@@ -1,3 +1,4 @@
+mod Going
 mod Alike
 mod AlikeMoves
 mod Rests

@@ -16,6 +16,7 @@ use Rattle.lp_machine.proofs.RunMoves.{over_stays}
 use Rattle.lp_push.specs.States.{waits_in, waits, rests_by, rests, goes, next_is}
 use Rattle.lp_push.proofs.Alike.{with_taken, Works, Alike, asks_alike}
 use Rattle.lp_push.proofs.AlikeMoves.{move_so}
+use Rattle.lp_push.proofs.Going.{stops, moves_on}
 
 -- the same calls and the same end
 abbrev pub Ends_as : Config → Config → Type 0
@@ -35,13 +36,6 @@ works_on (Looks places) n w = refl
 works_on (Checks place to stack) n w = refl
 works_on Drops n w = refl
 works_on (Over r) n w = refl
-
-module _ (t : Tables) (items : List RunItem) where
-  stops : (m : ℕ) (y : Config) → rests y ≡ true → goes t items (suc m) y ≡ (suc m, y)
-  stops m y e = ap (λ b. if b then (suc m, y) else goes t items m (move t items y)) e
-
-  moves_on : (m : ℕ) (y : Config) → rests y ≡ false → goes t items (suc m) y ≡ goes t items m (move t items y)
-  moves_on m y e = ap (λ b. if b then (suc m, y) else goes t items m (move t items y)) e
 
 -- on all items L the first j were taken
 module _ (t : Tables) (L : List RunItem) (j : ℕ) where

@@ -53,13 +53,11 @@ fn rests(config: &Config) -> bool
 fn go(input: &Input, config: &mut Config, most: u64) -> Result<u64, AllocError>
     ensures { IfOk result (λ left. (left, config.new) ≡ goes (tables_of input.now.tables.now) input.now.items.now most config.old) }
 {
-    let mut left = most;
-    while 0 < left {
+    for made in 0..most {
         if rests(config) {
-            return Ok(left);
+            return Ok(most - made);
         }
         input.advance(config)?;
-        left -= 1;
     }
     Ok(0)
 }
