@@ -19,7 +19,7 @@ use Rattle.lp_push.specs.declared.state.State.{State}
 use Rattle.lp_push.specs.States.{begun, at_pull, waits, goes, waiting, over_with, resting, next_is, taken_from, after_by, after, after_all, finished_by, finished}
 use Rattle.lp_push.proofs.Alike.{with_taken}
 use Rattle.lp_push.proofs.AlikeMoves.{pulls_alike}
-use Rattle.lp_push.proofs.Rests.{alike_ends, Settles_by, Settles, settles, both_ready, both_move}
+use Rattle.lp_push.proofs.Rests.{alike_ends, Settles_by, Settles, before_settles, settles, both_ready, both_move}
 
 -- of a run of at most so many moves on all items L
 module _ (t : Tables) (L : List RunItem) (most : ℕ) (none : t.error ≡ None) where
@@ -47,8 +47,9 @@ module _ (t : Tables) (L : List RunItem) (most : ℕ) (none : t.error ≡ None) 
   pull_settles j zero s item at = (refl, refl)
   pull_settles j (suc m) s item at =
       let on : move t L (with_taken j (at_pull s)) ≡ pulls t L (with_taken j (at_pull s)) (Some item) = ap (pulls t L (with_taken j (at_pull s))) at in
-      subst (λ (c : Config). Settles t L (j + 1) m c (goes t (next_is item) m (move t (next_is item) (at_pull s)))) (sym on)
-        (settles t L (j + 1) none item m (pulls t L (with_taken j (at_pull s)) (Some item)) (move t (next_is item) (at_pull s)) (inl (pulls_alike t L (next_is item) j 0 none (at_pull s) item refl)))
+      let r = goes t (next_is item) m (move t (next_is item) (at_pull s)) in
+      before_settles t L (j + 1) m (with_taken j (at_pull s)) r (subst (λ (c : Config). Settles t L (j + 1) m c r) (sym on)
+        (settles t L (j + 1) none item m (pulls t L (with_taken j (at_pull s)) (Some item)) (move t (next_is item) (at_pull s)) (inl (pulls_alike t L (next_is item) j 0 none (at_pull s) item refl))))
 
   after_stands_by : (j : ℕ) (s : State) (item : RunItem) (o : Option (Option Ending)) → s.outcome ≡ o → slice_get L j ≡ Some item → nat_lt j (length L) ≡ true → Stands_by o j s → Stands (j + 1) (after_by t o s item)
   after_stands_by j s item (Some ending) e at more p = subst (λ (o : Option (Option Ending)). Stands_by o (j + 1) (record s { fed = s.fed + 1 })) (sym e) p

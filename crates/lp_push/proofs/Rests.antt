@@ -48,11 +48,11 @@ module _ (t : Tables) (L : List RunItem) (j : ℕ) where
     pub on : x ≡ ready t L (with_taken j y)
 
   -- from x so many moves lead as far as from there, with as many as are left
-  pub record Pulls_from (m : ℕ) (x : Config) (left : ℕ) (y : Config) : Type 0 where
+  pub record Pulls_from (m : ℕ) (x : Config) (n : ℕ) (y : Config) : Type 0 where
     pub left : y.left ≡ Pulls
     pub lookahead : y.lookahead ≡ None
     pub mending : y.mending ≡ None
-    pub on : moves t L m x ≡ moves t L left (ready t L (with_taken j y))
+    pub on : moves t L m x ≡ moves t L n (ready t L (with_taken j y))
 
   abbrev pub Settles_by : Bool → ℕ → Config → ℕ × Config → Type 0
   Settles_by true m x r = Pulls_from m x r.0 r.1
@@ -66,6 +66,14 @@ module _ (t : Tables) (L : List RunItem) (j : ℕ) where
 
   works_settles : (m left : ℕ) (x y : Config) → Works y.left → Ends_as (moves t L m x) y → Settles m x (left, y)
   works_settles m left x y w e = subst (λ b. Settles_by b m x (left, y)) (sym (works_on y.left y.taken w)) e
+
+  -- with one move in front
+  one_before : (b : Bool) (m : ℕ) (x : Config) (r : ℕ × Config) → Settles_by b m (move t L x) r → Settles_by b (suc m) x r
+  one_before true m x r p = record { left = p.left; lookahead = p.lookahead; mending = p.mending; on = p.on }
+  one_before false m x r p = p
+
+  pub before_settles : (m : ℕ) (x : Config) (r : ℕ × Config) → Settles m (move t L x) r → Settles (suc m) x r
+  before_settles m x r p = one_before (waits r.1) m x r p
 
   meets_waits : (x y : Config) → Meets x y → waits y ≡ true
   meets_waits x y p = ap (λ (l : Left). waits_in l y.taken) p.left ∙ ap (λ n. waits_in Pulls n) p.taken
@@ -96,7 +104,7 @@ module _ (t : Tables) (L : List RunItem) (j : ℕ) where
           (works_settles (suc m) (suc m) x y a.works (ap (λ (c : Config). c.calls) over ∙ end.0, ap (λ (c : Config). ended c.left) over ∙ end.1))
     settles_by m x y None h a more =
         let e : rests y ≡ false = ap (λ (o : Option Ending). rests_by o y) h ∙ works_on y.left y.taken a.works in
-        subst (Settles (suc m) x) (sym (moves_on t (next_is item) m y e)) more
+        subst (Settles (suc m) x) (sym (moves_on t (next_is item) m y e)) (before_settles m x (goes t (next_is item) m (move t (next_is item) y)) more)
 
     -- so many moves from there, until the one on an item rests
     pub settles : (m : ℕ) (x y : Config) → Follows x y → Settles m x (goes t (next_is item) m y)
