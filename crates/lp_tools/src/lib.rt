@@ -1,0 +1,10 @@
+//! What programs over a grammar file share: how a call ends, what it reads and writes, and its words.
+#![tactic(auto)]
+
+mod program;
+mod status;
+mod tool;
+
+pub use program::{ended, words};
+pub use status::{ToolStatus, status_line};
+pub use tool::{Tool, ToolReport, run_tool};
