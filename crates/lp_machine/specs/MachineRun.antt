@@ -33,7 +33,7 @@ pub record Standing : Type 0 where
   pub config : Option Config
 
 abbrev pub standing_of : Machine → Standing
-standing_of m = record { tables = tables_of m.input.tables; items = m.input.items.now; config = m.config }
+standing_of m = record { tables = tables_of m.tables; items = m.items.now; config = m.config }
 
 -- before the first move
 abbrev pub at_first : Grammar → List Lr1State → Expecting → List RunItem → List Text → List ℕ → Standing

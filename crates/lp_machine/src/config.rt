@@ -4,6 +4,7 @@ ghost use Rattle.std.specs.Prelude.{◌≡◌, Some};
 ghost use Rattle.lp_machine.specs.StackMachine.{with_left};
 
 use crate::calls::Call;
+use crate::events::Calls;
 use crate::lookup::Rule;
 use crate::terms::Symbol;
 use lp_repr::text::{Items, Text};
@@ -68,7 +69,8 @@ pub struct Config {
     pub taken: usize,
     /// The end of the last token that was taken.
     pub last: Loc,
-    pub calls: Items<Call>,
+    /// The calls of user code that were made.
+    pub calls: Calls,
     pub left: Left,
 }
 

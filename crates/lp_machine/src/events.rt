@@ -1,6 +1,6 @@
 //! Events of calls.
 
-ghost use Rattle.std.specs.Prelude.{◌≡◌, map, IfOk};
+ghost use Rattle.std.specs.Prelude.{◌≡◌, [], ◌∷◌, ◌++◌, map, length, IfOk};
 ghost use Rattle.lp_machine.specs.RunEnds.{spanned_value, call_of};
 
 use crate::calls::Call;
@@ -8,6 +8,7 @@ use crate::terms::Symbol;
 use lp_repr::text::Items;
 use lp_repr::values::{Event, Loc, SpannedTerm};
 use std::alloc::{AllocError, Global};
+use std::marker::Model;
 
 fn triples_of(
     alloc: Global,
@@ -43,4 +44,68 @@ pub fn events_of(alloc: Global, calls: Items<Call>) -> Result<Vec<Event>, AllocE
         events.push(event_of(alloc, call)?)?;
     }
     Ok(events)
+}
+
+/// The calls of user code that were made so far. They are kept as their events; contracts see the calls.
+#[derive(Drop)]
+pub struct Calls {
+    events: Vec<Event>,
+}
+
+impl Model for Calls {
+    ghost use Rattle.std.specs.Prelude.{List, map};
+    ghost use Rattle.lp_machine.specs.declared.calls.Call.{Call};
+    ghost use Rattle.lp_machine.specs.RunEnds.{call_of};
+
+    ghost Value = { List Call };
+
+    ghost view = { λ c. map call_of c.events.items };
+}
+
+impl Calls {
+    /// No call.
+    pub fn none(alloc: Global) -> Calls
+        ensures { result ≡ [] }
+    {
+        Calls {
+            events: Vec::new(alloc),
+        }
+    }
+
+    /// The calls that these events tell of.
+    pub fn told(events: Vec<Event>) -> Calls
+        ensures { result ≡ map call_of events.items }
+    {
+        Calls { events }
+    }
+
+    /// How many they are.
+    pub fn count(&self) -> u64
+        ensures { result ≡ length self.now }
+    {
+        self.events.len() as u64
+    }
+
+    /// Makes one more. Fails where memory runs out.
+    pub fn make(&mut self, alloc: Global, call: Call) -> Result<(), AllocError>
+        ensures { IfOk result (λ _. self.new ≡ self.old ++ call ∷ []) }
+    {
+        let event = event_of(alloc, call)?;
+        self.events.push(event)?;
+        Ok(())
+    }
+
+    /// Their events, in order.
+    pub fn events(&self) -> &[Event]
+        ensures { map call_of result.now ≡ self.now }
+    {
+        self.events.as_slice()
+    }
+
+    /// Their events, in order.
+    pub fn into_events(self) -> Vec<Event>
+        ensures { map call_of result.items ≡ self }
+    {
+        self.events
+    }
 }

@@ -9,7 +9,6 @@ ghost use Rattle.lp_machine.specs.RunEnds.{ended, ending_of, outcome_ending, Tel
 
 use crate::compiled::Compiled;
 use crate::config::{Config, Left};
-use crate::events::events_of;
 use crate::next::Input;
 use crate::terms::{Symbol, copied_ending};
 use lp_driver::{Expecting, RunError};
@@ -22,7 +21,8 @@ use std::alloc::{AllocError, Global};
 /// The stack machine of a grammar's tables on a list of items.
 #[derive(Drop)]
 pub struct Machine<'g> {
-    input: Input<'g>,
+    tables: Compiled<'g>,
+    items: &'g [RunItem],
     // None after want of memory
     config: Option<Config>,
 }
@@ -61,8 +61,8 @@ fn is_over(config: &Config) -> bool
     matches!(&config.left, Left::Over(_))
 }
 
-// The outcome of a run that is over, else that its moves were spent.
-fn outcome_after(left: Left) -> Outcome
+/// The outcome of a run that is over, else that its moves were spent.
+pub fn outcome_after(left: Left) -> Outcome
     ensures { outcome_ending result ≡ ended left }
 {
     match left {
@@ -73,7 +73,7 @@ fn outcome_after(left: Left) -> Outcome
 
 // One move, where one is left, and the outcome where then none is left.
 fn stepped(input: &Input, config: Config) -> Result<(Config, Option<Outcome>), AllocError>
-    ensures { IfOk result (λ r. (r.0 ≡ move (tables_of input.now.tables) input.now.items.now config) × TellsEnd r.1 (ended r.0.left)) }
+    ensures { IfOk result (λ r. (r.0 ≡ move (tables_of input.now.tables.now) input.now.items.now config) × TellsEnd r.1 (ended r.0.left)) }
 {
     let mut next = config;
     input.advance(&mut next)?;
@@ -88,20 +88,20 @@ fn stand(place: &mut Option<Config>, config: Config)
     *place = Some(config);
 }
 
-fn run_of(alloc: Global, config: Config, moves: u64) -> Result<MachineRun, AllocError>
-    ensures { IfOk result (λ run. (map call_of run.events.items ≡ config.calls) × (outcome_ending run.outcome ≡ ended config.left) × (run.moves ≡ moves)) }
+fn run_of(config: Config, moves: u64) -> MachineRun
+    ensures { (map call_of result.events.items ≡ config.calls) × (outcome_ending result.outcome ≡ ended config.left) × (result.moves ≡ moves) }
 {
-    Ok(MachineRun {
-        events: events_of(alloc, config.calls)?,
+    MachineRun {
+        events: config.calls.into_events(),
         outcome: outcome_after(config.left),
         moves,
-    })
+    }
 }
 
-impl Input<'_> {
-    // Makes at most so many moves, until none is left, and answers how many were made.
-    fn run_moves(&self, config: &mut Config, most: u64) -> Result<u64, AllocError>
-        ensures { IfOk result (λ made. (config.new ≡ moves (tables_of self.now.tables) self.now.items.now most config.old) × (made ≡ moves_made (tables_of self.now.tables) self.now.items.now most config.old)) }
+impl Input<'_, '_> {
+    /// Makes at most so many moves, until none is left, and answers how many were made.
+    pub fn run_moves(&self, config: &mut Config, most: u64) -> Result<u64, AllocError>
+        ensures { IfOk result (λ made. (config.new ≡ moves (tables_of self.now.tables.now) self.now.items.now most config.old) × (made ≡ moves_made (tables_of self.now.tables.now) self.now.items.now most config.old)) }
     {
         for made in 0..most {
             if is_over(config) {
@@ -132,9 +132,16 @@ impl<'g> Machine<'g> {
             return Err(RunError::ParameterCount);
         }
         let tables = Compiled::new(alloc, grammar, states, expecting, params, failing)?;
-        let input = Input { tables, items };
+        let input = Input {
+            tables: &tables,
+            items,
+        };
         let config = Some(input.first()?);
-        Ok(Machine { input, config })
+        Ok(Machine {
+            tables,
+            items,
+            config,
+        })
     }
 
     /// Makes one move, where one is left, and answers the outcome where then none is left: `None`
@@ -146,7 +153,11 @@ impl<'g> Machine<'g> {
         let Some(config) = self.config.take() else {
             return Err(AllocError);
         };
-        let (next, outcome) = stepped(&self.input, config)?;
+        let input = Input {
+            tables: &self.tables,
+            items: self.items,
+        };
+        let (next, outcome) = stepped(&input, config)?;
         stand(&mut self.config, next);
         Ok(outcome)
     }
@@ -156,18 +167,28 @@ impl<'g> Machine<'g> {
     pub fn run(self, moves: u64) -> Result<MachineRun, RunError>
         ensures { Runs result moves (standing_of self.entry) }
     {
-        let Machine { input, config } = self;
+        let Machine {
+            tables,
+            items,
+            config,
+        } = self;
         match config {
             None => Err(RunError::Memory),
-            Some(config) => run_from(&input, config, moves),
+            Some(config) => {
+                let input = Input {
+                    tables: &tables,
+                    items,
+                };
+                run_from(&input, config, moves)
+            }
         }
     }
 }
 
 fn run_from(input: &Input, config: Config, moves: u64) -> Result<MachineRun, RunError>
-    ensures { Runs result moves (record { tables = tables_of input.now.tables; items = input.now.items.now; config = Some config }) }
+    ensures { Runs result moves (record { tables = tables_of input.now.tables.now; items = input.now.items.now; config = Some config }) }
 {
     let mut now = config;
     let made = input.run_moves(&mut now, moves)?;
-    Ok(run_of(input.tables.alloc, now, made)?)
+    Ok(run_of(now, made))
 }

@@ -109,10 +109,10 @@ pub fn located(is_located: bool, at: Loc) -> Loc
     if is_located { at } else { Loc::Default }
 }
 
-impl Input<'_> {
+impl Input<'_, '_> {
     // A copy of an item's token, with its span.
     fn token_in(&self, start: Loc, token: &TokenValue, end: Loc) -> Result<SpannedToken, AllocError>
-        ensures { IfOk result (λ t. t ≡ token_in (tables_of self.now.tables) self.now.items.now start token.now end) }
+        ensures { IfOk result (λ t. t ≡ token_in (tables_of self.now.tables.now) self.now.items.now start token.now end) }
     {
         let is_located = self.tables.is_located;
         Ok((
@@ -129,7 +129,7 @@ impl Input<'_> {
         token: SpannedToken,
         terminal: Option<usize>,
     ) -> Result<(), AllocError>
-        ensures { IfOk result (λ _. config.new ≡ takes (tables_of self.now.tables) self.now.items.now config.old token terminal) }
+        ensures { IfOk result (λ _. config.new ≡ takes (tables_of self.now.tables.now) self.now.items.now config.old token terminal) }
     {
         match terminal {
             None => self.errs(config, Some(token), false),
@@ -142,7 +142,7 @@ impl Input<'_> {
 
     // Takes an item: a fault ends the run.
     fn pulls(&self, config: &mut Config) -> Result<(), AllocError>
-        ensures { IfOk result (λ _. config.new ≡ pulls (tables_of self.now.tables) self.now.items.now config.old (slice_get self.now.items.now config.old.taken)) }
+        ensures { IfOk result (λ _. config.new ≡ pulls (tables_of self.now.tables.now) self.now.items.now config.old (slice_get self.now.items.now config.old.taken)) }
     {
         match self.items.get(config.taken) {
             None => self.asks(config),
@@ -164,7 +164,7 @@ impl Input<'_> {
 
     // Pushes the lookahead and a state.
     fn shifts(&self, config: &mut Config, to: usize) -> Result<(), AllocError>
-        ensures { IfOk result (λ _. config.new ≡ shifts (tables_of self.now.tables) self.now.items.now config.old to) }
+        ensures { IfOk result (λ _. config.new ≡ shifts (tables_of self.now.tables.now) self.now.items.now config.old to) }
     {
         self.pushes_lookahead(config)?;
         push(&mut config.states, to)?;
@@ -173,7 +173,7 @@ impl Input<'_> {
 
     // Pushes the value of the lookahead, with its span.
     fn pushes_lookahead(&self, config: &mut Config) -> Result<(), AllocError>
-        ensures { IfOk result (λ _. config.new ≡ record config.old { triples = shifted_triples (tables_of self.now.tables) self.now.items.now config.old config.old.lookahead; lookahead = None }) }
+        ensures { IfOk result (λ _. config.new ≡ record config.old { triples = shifted_triples (tables_of self.now.tables.now) self.now.items.now config.old config.old.lookahead; lookahead = None }) }
     {
         match config.lookahead.take() {
             None => Ok(()),
@@ -193,12 +193,12 @@ impl Input<'_> {
         mut calls: Items<Call>,
         ending: Result<Symbol, RunParseError>,
     ) -> Result<(), AllocError>
-        ensures { IfOk result (λ _. config.new ≡ makes_call (tables_of self.now.tables) self.now.items.now config.old rule calls ending) }
+        ensures { IfOk result (λ _. config.new ≡ makes_call (tables_of self.now.tables.now) self.now.items.now config.old rule calls ending) }
     {
         match take_first(&mut calls) {
             None => self.calls_next(config, rule, calls, ending),
             Some(call) => {
-                push(&mut config.calls, call)?;
+                config.calls.make(self.tables.alloc, call)?;
                 self.calls_next(config, rule, calls, ending)
             }
         }
@@ -212,7 +212,7 @@ impl Input<'_> {
         value: Symbol,
         to: Option<usize>,
     ) -> Result<(), AllocError>
-        ensures { IfOk result (λ _. config.new ≡ reduces_to (tables_of self.now.tables) self.now.items.now config.old rule value to) }
+        ensures { IfOk result (λ _. config.new ≡ reduces_to (tables_of self.now.tables.now) self.now.items.now config.old rule value to) }
     {
         let Some(to) = to else {
             return self.no_action(config);
@@ -227,7 +227,7 @@ impl Input<'_> {
 
     // Takes off the symbols of a reduction, and pushes its value.
     fn reduces(&self, config: &mut Config, rule: Rule, value: Symbol) -> Result<(), AllocError>
-        ensures { IfOk result (λ _. config.new ≡ reduces (tables_of self.now.tables) self.now.items.now config.old rule value) }
+        ensures { IfOk result (λ _. config.new ≡ reduces (tables_of self.now.tables.now) self.now.items.now config.old rule value) }
     {
         let below = config.state_below(rule.length);
         let to = self.tables.goto_from(below, rule.nonterminal);
@@ -242,7 +242,7 @@ impl Input<'_> {
         i: usize,
         verdict: Verdict,
     ) -> Result<(), AllocError>
-        ensures { IfOk result (λ _. config.new ≡ tried (tables_of self.now.tables) self.now.items.now config.old listing i verdict) }
+        ensures { IfOk result (λ _. config.new ≡ tried (tables_of self.now.tables.now) self.now.items.now config.old listing i verdict) }
     {
         match verdict {
             Verdict::Yes => match self.tables.known(i) {
@@ -262,7 +262,7 @@ impl Input<'_> {
 
     // No prefix serves: the lookahead is dropped, or at the end the first error stands.
     fn drops_or(&self, config: &mut Config) -> Result<(), AllocError>
-        ensures { IfOk result (λ _. config.new ≡ drops_or (tables_of self.now.tables) self.now.items.now config.old config.old.mending config.old.lookahead) }
+        ensures { IfOk result (λ _. config.new ≡ drops_or (tables_of self.now.tables.now) self.now.items.now config.old config.old.mending config.old.lookahead) }
     {
         match &config.lookahead {
             Some(_) => {
@@ -282,7 +282,7 @@ impl Input<'_> {
 
     // The next prefix, which ends below this place.
     fn looks_below(&self, config: &mut Config, place: usize) -> Result<(), AllocError>
-        ensures { IfOk result (λ _. config.new ≡ looks_below (tables_of self.now.tables) self.now.items.now config.old place) }
+        ensures { IfOk result (λ _. config.new ≡ looks_below (tables_of self.now.tables.now) self.now.items.now config.old place) }
     {
         if place == 0 {
             return self.drops_or(config);
@@ -293,7 +293,7 @@ impl Input<'_> {
 
     // This place serves: the stacks are cut there, and the error symbol is pushed.
     fn mends(&self, config: &mut Config, place: usize, to: usize) -> Result<(), AllocError>
-        ensures { IfOk result (λ _. config.new ≡ mends (tables_of self.now.tables) self.now.items.now config.old config.old.mending place to) }
+        ensures { IfOk result (λ _. config.new ≡ mends (tables_of self.now.tables.now) self.now.items.now config.old config.old.mending place to) }
     {
         let Some(mending) = config.mending.take() else {
             return self.asks(config);
@@ -319,10 +319,10 @@ impl Input<'_> {
         to: usize,
         stack: &[usize],
     ) -> Result<(), AllocError>
-        ensures { IfOk result (λ _. config.new ≡ checks (tables_of self.now.tables) self.now.items.now config.old place to stack.now) }
+        ensures { IfOk result (λ _. config.new ≡ checks (tables_of self.now.tables.now) self.now.items.now config.old place to stack.now) }
     {
         let terminal = config.lookahead_terminal();
-        match verdict_on(&self.tables, stack, terminal)? {
+        match verdict_on(self.tables, stack, terminal)? {
             Verdict::Yes => self.mends(config, place, to),
             Verdict::No => self.looks_below(config, place),
             Verdict::GoesOn(next) => {
@@ -339,7 +339,7 @@ impl Input<'_> {
         place: usize,
         shift: Option<usize>,
     ) -> Result<(), AllocError>
-        ensures { IfOk result (λ _. config.new ≡ looks_by (tables_of self.now.tables) self.now.items.now config.old place shift) }
+        ensures { IfOk result (λ _. config.new ≡ looks_by (tables_of self.now.tables.now) self.now.items.now config.old place shift) }
     {
         let Some(to) = shift else {
             return self.looks_below(config, place);
@@ -350,7 +350,7 @@ impl Input<'_> {
 
     // Looks at the prefix of so many states.
     fn looks_at(&self, config: &mut Config, places: usize) -> Result<(), AllocError>
-        ensures { IfOk result (λ _. config.new ≡ looks_at (tables_of self.now.tables) self.now.items.now config.old places) }
+        ensures { IfOk result (λ _. config.new ≡ looks_at (tables_of self.now.tables.now) self.now.items.now config.old places) }
     {
         if places == 0 {
             return self.looks_below(config, 0);
@@ -368,7 +368,7 @@ impl Input<'_> {
         token: SpannedToken,
         terminal: Option<usize>,
     ) -> Result<(), AllocError>
-        ensures { IfOk result (λ _. config.new ≡ taken_after (tables_of self.now.tables) self.now.items.now config.old token terminal) }
+        ensures { IfOk result (λ _. config.new ≡ taken_after (tables_of self.now.tables.now) self.now.items.now config.old token terminal) }
     {
         match terminal {
             None => self.errs(config, Some(token), false),
@@ -382,7 +382,7 @@ impl Input<'_> {
 
     // Takes the next item after a token was dropped.
     fn drops(&self, config: &mut Config) -> Result<(), AllocError>
-        ensures { IfOk result (λ _. config.new ≡ drops (tables_of self.now.tables) self.now.items.now config.old (slice_get self.now.items.now config.old.taken)) }
+        ensures { IfOk result (λ _. config.new ≡ drops (tables_of self.now.tables.now) self.now.items.now config.old (slice_get self.now.items.now config.old.taken)) }
     {
         match self.items.get(config.taken) {
             None => {
@@ -407,7 +407,7 @@ impl Input<'_> {
 
     // Drops the lookahead, and takes the next item.
     fn dropping(&self, config: &mut Config) -> Result<(), AllocError>
-        ensures { IfOk result (λ _. config.new ≡ dropping (tables_of self.now.tables) self.now.items.now config.old config.old.mending) }
+        ensures { IfOk result (λ _. config.new ≡ dropping (tables_of self.now.tables.now) self.now.items.now config.old config.old.mending) }
     {
         let Some(mending) = config.mending.take() else {
             return self.asks(config);
@@ -419,14 +419,14 @@ impl Input<'_> {
 
     // A trial of a terminal on the stack itself.
     fn says_here(&self, config: &Config, i: usize) -> Result<Verdict, AllocError>
-        ensures { IfOk result (λ v. v ≡ verdict (tables_of self.now.tables) config.now.states (Some i)) }
+        ensures { IfOk result (λ v. v ≡ verdict (tables_of self.now.tables.now) config.now.states (Some i)) }
     {
-        verdict_on(&self.tables, config.states.as_slice(), Some(i))
+        verdict_on(self.tables, config.states.as_slice(), Some(i))
     }
 
     // Makes the move that was left.
     fn makes(&self, config: &mut Config, left: Left) -> Result<(), AllocError>
-        ensures { IfOk result (λ _. config.new ≡ makes (tables_of self.now.tables) self.now.items.now config.old left) }
+        ensures { IfOk result (λ _. config.new ≡ makes (tables_of self.now.tables.now) self.now.items.now config.old left) }
     {
         match left {
             Left::Pulls => self.pulls(config),
@@ -438,7 +438,7 @@ impl Input<'_> {
                 self.tried(config, listing, i, says)
             }
             Left::Simulates(listing, i, stack) => {
-                let says = verdict_on(&self.tables, stack.as_slice(), Some(i))?;
+                let says = verdict_on(self.tables, stack.as_slice(), Some(i))?;
                 self.tried(config, listing, i, says)
             }
             Left::Looks(places) => self.looks_at(config, places),
@@ -453,7 +453,7 @@ impl Input<'_> {
 
     /// Makes one move, where one is left.
     pub fn advance(&self, config: &mut Config) -> Result<(), AllocError>
-        ensures { IfOk result (λ _. config.new ≡ move (tables_of self.now.tables) self.now.items.now config.old) }
+        ensures { IfOk result (λ _. config.new ≡ move (tables_of self.now.tables.now) self.now.items.now config.old) }
     {
         let left = mem::replace(&mut config.left, Left::Pulls);
         self.makes(config, left)

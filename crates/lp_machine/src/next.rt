@@ -9,6 +9,7 @@ ghost use Rattle.lp_machine.specs.Moves.{valued, called, calls_next, acted, look
 use crate::calls::{Acted, Call};
 use crate::compiled::Compiled;
 use crate::config::{Config, Left, Listing, Lookahead, Mending, go_on, mend};
+use crate::events::Calls;
 use crate::lists::{none, popped, push};
 use crate::lookup::{Act, Rule};
 use crate::terms::Symbol;
@@ -18,11 +19,11 @@ use lp_repr::text::{Items, Text};
 use lp_repr::values::{Loc, ParseError, RunItem, RunParseError, SpannedToken};
 use std::alloc::{AllocError, Global};
 
-/// What a machine runs on.
-#[derive(Drop)]
-pub struct Input<'g> {
-    pub tables: Compiled<'g>,
-    pub items: &'g [RunItem],
+/// What moves are made on: tables, and all items, of which a configuration has taken the first.
+#[derive(Clone, Copy)]
+pub struct Input<'t, 'g> {
+    pub tables: &'t Compiled<'g>,
+    pub items: &'t [RunItem],
 }
 
 /// The run ends so.
@@ -45,10 +46,10 @@ fn failure_at(last: Loc, token: Option<SpannedToken>, expected: Items<Text>) -> 
     }
 }
 
-impl Input<'_> {
+impl Input<'_, '_> {
     // A reduction whose action gave a value: the start's ends the run.
     fn valued(&self, config: &mut Config, rule: Rule, value: Symbol) -> Result<(), AllocError>
-        ensures { IfOk result (λ _. config.new ≡ valued (tables_of self.now.tables) self.now.items.now config.old rule value) }
+        ensures { IfOk result (λ _. config.new ≡ valued (tables_of self.now.tables.now) self.now.items.now config.old rule value) }
     {
         if rule.is_start {
             let ending = config.result_at(self.tables.alloc, value)?;
@@ -66,7 +67,7 @@ impl Input<'_> {
         rule: Rule,
         ending: Result<Symbol, RunParseError>,
     ) -> Result<(), AllocError>
-        ensures { IfOk result (λ _. config.new ≡ called (tables_of self.now.tables) self.now.items.now config.old rule ending) }
+        ensures { IfOk result (λ _. config.new ≡ called (tables_of self.now.tables.now) self.now.items.now config.old rule ending) }
     {
         match ending {
             Ok(value) => self.valued(config, rule, value),
@@ -85,7 +86,7 @@ impl Input<'_> {
         calls: Items<Call>,
         ending: Result<Symbol, RunParseError>,
     ) -> Result<(), AllocError>
-        ensures { IfOk result (λ _. config.new ≡ calls_next (tables_of self.now.tables) self.now.items.now config.old rule calls ending) }
+        ensures { IfOk result (λ _. config.new ≡ calls_next (tables_of self.now.tables.now) self.now.items.now config.old rule calls ending) }
     {
         if calls.as_slice().is_empty() {
             return self.called(config, rule, ending);
@@ -96,13 +97,13 @@ impl Input<'_> {
 
     // What the action of a reduction does.
     fn acted(&self, config: &Config, rule: Rule) -> Result<Acted, AllocError>
-        ensures { IfOk result (λ x. x ≡ acted (tables_of self.now.tables) self.now.items.now config.now rule) }
+        ensures { IfOk result (λ x. x ≡ acted (tables_of self.now.tables.now) self.now.items.now config.now rule) }
     {
         let actions = &self.tables.actions;
         let empty = config.empty_place();
         let args = popped(&config.triples, rule.length);
         let depth = actions.actions.len();
-        let n = config.calls.as_slice().len() as u64;
+        let n = config.calls.count();
         actions.act(
             self.tables.alloc,
             depth,
@@ -115,7 +116,7 @@ impl Input<'_> {
 
     // A reduction, once its symbols are known to be there.
     fn reduces_by(&self, config: &mut Config, rule: Rule) -> Result<(), AllocError>
-        ensures { IfOk result (λ _. config.new ≡ calls_next (tables_of self.now.tables) self.now.items.now config.old rule (acted (tables_of self.now.tables) self.now.items.now config.old rule).calls (acted (tables_of self.now.tables) self.now.items.now config.old rule).result) }
+        ensures { IfOk result (λ _. config.new ≡ calls_next (tables_of self.now.tables.now) self.now.items.now config.old rule (acted (tables_of self.now.tables.now) self.now.items.now config.old rule).calls (acted (tables_of self.now.tables.now) self.now.items.now config.old rule).result) }
     {
         let done = self.acted(config, rule)?;
         self.calls_next(config, rule, done.calls, done.result)
@@ -123,7 +124,7 @@ impl Input<'_> {
 
     /// No more reductions of an error: the longest prefix of the stack is looked at.
     pub fn looks(&self, config: &mut Config)
-        ensures { config.new ≡ looks (tables_of self.now.tables) self.now.items.now config.old }
+        ensures { config.new ≡ looks (tables_of self.now.tables.now) self.now.items.now config.old }
     {
         let places = config.height();
         go_on(config, Left::Looks(places));
@@ -131,7 +132,7 @@ impl Input<'_> {
 
     // The rule of a production, where its symbols are on the stack.
     fn reducible(&self, config: &Config, production: usize) -> Option<Rule>
-        ensures { result ≡ reducible (tables_of self.now.tables) self.now.items.now config.now production }
+        ensures { result ≡ reducible (tables_of self.now.tables.now) self.now.items.now config.now production }
     {
         match self.tables.rule(production) {
             None => None,
@@ -147,7 +148,7 @@ impl Input<'_> {
 
     // The reductions that the error terminal triggers.
     fn asks_error(&self, config: &mut Config) -> Result<(), AllocError>
-        ensures { IfOk result (λ _. config.new ≡ asks_error (tables_of self.now.tables) self.now.items.now config.old) }
+        ensures { IfOk result (λ _. config.new ≡ asks_error (tables_of self.now.tables.now) self.now.items.now config.old) }
     {
         let state = config.top_state();
         match self.tables.action_on_error(state) {
@@ -163,7 +164,7 @@ impl Input<'_> {
 
     // An error with its expected list is to be mended, or ends the run.
     fn completes(&self, config: &mut Config, listing: Listing) -> Result<(), AllocError>
-        ensures { IfOk result (λ _. config.new ≡ completes (tables_of self.now.tables) self.now.items.now config.old listing) }
+        ensures { IfOk result (λ _. config.new ≡ completes (tables_of self.now.tables.now) self.now.items.now config.old listing) }
     {
         let Listing {
             token,
@@ -187,7 +188,7 @@ impl Input<'_> {
         listing: Listing,
         i: usize,
     ) -> Result<(), AllocError>
-        ensures { IfOk result (λ _. config.new ≡ tries_next (tables_of self.now.tables) self.now.items.now config.old listing i) }
+        ensures { IfOk result (λ _. config.new ≡ tries_next (tables_of self.now.tables.now) self.now.items.now config.old listing i) }
     {
         if i < self.tables.terminals.len() {
             go_on(config, Left::Tries(listing, i));
@@ -203,9 +204,9 @@ impl Input<'_> {
         token: Option<SpannedToken>,
         mends: bool,
     ) -> Result<(), AllocError>
-        ensures { IfOk result (λ _. config.new ≡ errs_by (tables_of self.now.tables) self.now.items.now Actions config.old token mends) }
+        ensures { IfOk result (λ _. config.new ≡ errs_by (tables_of self.now.tables.now) self.now.items.now Actions config.old token mends) }
     {
-        let found = names_with_action(&self.tables, config.top_state())?;
+        let found = names_with_action(self.tables, config.top_state())?;
         let listing = Listing {
             token,
             mends,
@@ -221,7 +222,7 @@ impl Input<'_> {
         token: Option<SpannedToken>,
         mends: bool,
     ) -> Result<(), AllocError>
-        ensures { IfOk result (λ _. config.new ≡ errs_by (tables_of self.now.tables) self.now.items.now Trial config.old token mends) }
+        ensures { IfOk result (λ _. config.new ≡ errs_by (tables_of self.now.tables.now) self.now.items.now Trial config.old token mends) }
     {
         let found = none(self.tables.alloc);
         let listing = Listing {
@@ -239,7 +240,7 @@ impl Input<'_> {
         token: Option<SpannedToken>,
         mends: bool,
     ) -> Result<(), AllocError>
-        ensures { IfOk result (λ _. config.new ≡ errs (tables_of self.now.tables) self.now.items.now config.old token mends) }
+        ensures { IfOk result (λ _. config.new ≡ errs (tables_of self.now.tables.now) self.now.items.now config.old token mends) }
     {
         match self.tables.expecting {
             Expecting::Trial => self.errs_tried(config, token, mends),
@@ -249,14 +250,14 @@ impl Input<'_> {
 
     /// The top state has no action.
     pub fn no_action(&self, config: &mut Config) -> Result<(), AllocError>
-        ensures { IfOk result (λ _. config.new ≡ no_action (tables_of self.now.tables) self.now.items.now config.old) }
+        ensures { IfOk result (λ _. config.new ≡ no_action (tables_of self.now.tables.now) self.now.items.now config.old) }
     {
         let token = config.lookahead_token(self.tables.alloc)?;
         self.errs(config, token, self.tables.error.is_some())
     }
 
     fn does(&self, config: &mut Config, act: Act) -> Result<(), AllocError>
-        ensures { IfOk result (λ _. config.new ≡ does (tables_of self.now.tables) self.now.items.now config.old act) }
+        ensures { IfOk result (λ _. config.new ≡ does (tables_of self.now.tables.now) self.now.items.now config.old act) }
     {
         match act {
             Act::NoAction => self.no_action(config),
@@ -273,7 +274,7 @@ impl Input<'_> {
 
     /// What the top state does on the lookahead or at the end, or on an error that is mended.
     pub fn asks(&self, config: &mut Config) -> Result<(), AllocError>
-        ensures { IfOk result (λ _. config.new ≡ asks (tables_of self.now.tables) self.now.items.now config.old) }
+        ensures { IfOk result (λ _. config.new ≡ asks (tables_of self.now.tables.now) self.now.items.now config.old) }
     {
         match &config.mending {
             Some(_) => self.asks_error(config),
@@ -288,7 +289,7 @@ impl Input<'_> {
 
     /// With no token in hand the next item is to be taken.
     pub fn ready(&self, config: &mut Config) -> Result<(), AllocError>
-        ensures { IfOk result (λ _. config.new ≡ ready (tables_of self.now.tables) self.now.items.now config.old) }
+        ensures { IfOk result (λ _. config.new ≡ ready (tables_of self.now.tables.now) self.now.items.now config.old) }
     {
         match &config.lookahead {
             Some(_) => self.asks(config),
@@ -305,7 +306,7 @@ impl Input<'_> {
 
     /// Before any move.
     pub fn first(&self) -> Result<Config, AllocError>
-        ensures { IfOk result (λ c. c ≡ first (tables_of self.now.tables) self.now.items.now) }
+        ensures { IfOk result (λ c. c ≡ first (tables_of self.now.tables.now) self.now.items.now) }
     {
         let alloc = self.tables.alloc;
         let mut states = none(alloc);
@@ -317,7 +318,7 @@ impl Input<'_> {
             mending: None,
             taken: 0,
             last: Loc::Default,
-            calls: none(alloc),
+            calls: Calls::none(alloc),
             left: Left::Pulls,
         };
         self.ready(&mut config)?;

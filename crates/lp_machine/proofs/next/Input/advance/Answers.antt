@@ -9,7 +9,7 @@ use Rattle.lp_machine.proofs.next.Input.advance.Goals as goal
 
 pub returns : goal.returns
 returns c =
-    let t = tables_of c.args.self.now.tables in
+    let t = tables_of c.args.self.now.tables.now in
     let items = c.args.self.now.items.now in
     let config = c.args.config.now in
     let e = ap (λ (l : Left). makes t items (with_left config l) c.replace-left.result) c.replace-left.ensures.after ∙ ap (makes t items (with_left config Pulls)) c.replace-left.ensures.value in

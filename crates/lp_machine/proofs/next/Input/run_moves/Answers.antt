@@ -7,7 +7,7 @@ use Rattle.lp_machine.proofs.next.Input.run_moves.Goals as goal
 
 pub loop-made-init : goal.loop-made-init
 loop-made-init c =
-    let t = tables_of c.args.self.now.tables in
+    let t = tables_of c.args.self.now.tables.now in
     let items = c.args.self.now.items.now in
     record {
       same = λ k. ap (λ n. moves t items n c.args.config.now) (zero-add k);
@@ -16,7 +16,7 @@ loop-made-init c =
 
 pub loop-made-preserved : goal.loop-made-preserved
 loop-made-preserved c =
-    let t = tables_of c.args.self.now.tables in
+    let t = tables_of c.args.self.now.tables.now in
     let items = c.args.self.now.items.now in
     record {
       same = one_more t items c.loop-made.made c.args.config.now c.loop-made.config _ c.loop-made.invariant.same c.in_ok-advance.ensures;
@@ -25,12 +25,12 @@ loop-made-preserved c =
 
 pub returns-then-is_over : goal.returns-then-is_over
 returns-then-is_over c =
-    let t = tables_of c.args.self.now.tables in
+    let t = tables_of c.args.self.now.tables.now in
     let items = c.args.self.now.items.now in
     over_here t items c.loop-made.made c.args.most c.args.config.now c.loop-made.config (omega arith) c.loop-made.invariant.same c.loop-made.invariant.count (sym c.is_over.ensures ∙ c.if-is_over.true)
 
 pub returns : goal.returns
 returns c =
-    let t = tables_of c.args.self.now.tables in
+    let t = tables_of c.args.self.now.tables.now in
     let items = c.args.self.now.items.now in
     all_made t items c.loop-made.made c.args.most c.args.config.now c.loop-made.config (omega arith) c.loop-made.invariant.same c.loop-made.invariant.count

@@ -7,6 +7,6 @@ use Rattle.lp_machine.proofs.next.Input.run_moves.Given as goal
 -- however many moves follow those made so far, they follow from here
 abbrev pub invariant-loop-made : goal.invariant-loop-made
 invariant-loop-made l = record {
-  same : (k : ℕ) → moves (tables_of l.self.tables) l.self.items.now (l.made + k) l.initial.config ≡ moves (tables_of l.self.tables) l.self.items.now k l.config;
-  count : (k : ℕ) → moves_made (tables_of l.self.tables) l.self.items.now (l.made + k) l.initial.config ≡ l.made + moves_made (tables_of l.self.tables) l.self.items.now k l.config;
+  same : (k : ℕ) → moves (tables_of l.self.tables.now) l.self.items.now (l.made + k) l.initial.config ≡ moves (tables_of l.self.tables.now) l.self.items.now k l.config;
+  count : (k : ℕ) → moves_made (tables_of l.self.tables.now) l.self.items.now (l.made + k) l.initial.config ≡ l.made + moves_made (tables_of l.self.tables.now) l.self.items.now k l.config;
 }

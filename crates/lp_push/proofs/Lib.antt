@@ -1,0 +1,5 @@
+mod Alike
+mod AlikeMoves
+mod Rests
+mod ItemByItem
+pub mod Cut
