@@ -3,8 +3,8 @@
 
 mod block;
 mod file;
-mod scan;
-mod token_line;
+pub mod scan;
+pub mod token_line;
 mod vocabulary;
 
 pub use block::{Block, append_block};

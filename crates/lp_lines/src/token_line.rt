@@ -78,7 +78,7 @@ pub fn read_token_lines(
 }
 
 /// The lines of a text; after its last line feed none begins.
-fn lines(alloc: Global, text: &[u8]) -> Result<Vec<&[u8]>, AllocError>
+pub fn lines(alloc: Global, text: &[u8]) -> Result<Vec<&[u8]>, AllocError>
     ensures { IfOk result (λ lines. map (λ line. line.now) lines.items ≡ lines_of text.now) }
 {
     let mut lines = split(alloc, text, b'\n')?;
@@ -99,7 +99,7 @@ fn ends_empty(lines: &[&[u8]]) -> bool
 }
 
 /// A number from 1 to the greatest budget.
-fn budget_of(text: &[u8]) -> Option<u64>
+pub fn budget_of(text: &[u8]) -> Option<u64>
     ensures { result ≡ budget_number text.now }
 {
     let value = number(text)?;
@@ -111,7 +111,7 @@ fn budget_of(text: &[u8]) -> Option<u64>
 }
 
 /// `-` for none, or numbers between commas.
-fn failing_of(alloc: Global, text: &[u8]) -> Result<Option<Items<u64>>, AllocError>
+pub fn failing_of(alloc: Global, text: &[u8]) -> Result<Option<Items<u64>>, AllocError>
     ensures { IfOk result (λ failing. failing ≡ failing_numbers text.now) }
 {
     if text == b"-".as_slice() {

@@ -2,9 +2,11 @@
 #![tactic(auto)]
 
 mod program;
+mod runs;
 mod status;
 mod tool;
 
 pub use program::{ended, words};
+pub use runs::{parameter_values, states_of};
 pub use status::{ToolStatus, status_line};
 pub use tool::{Tool, ToolReport, run_tool};
