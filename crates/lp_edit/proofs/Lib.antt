@@ -1,2 +1,3 @@
 pub mod Saving
 pub mod Joining
+pub mod Steps

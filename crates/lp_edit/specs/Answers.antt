@@ -3,13 +3,18 @@ use Rattle.std.specs.Prelude.{◌≡◌, ◌≢◌, ℕ, ◌+◌, ◌<◌, ◌�
 use Rattle.lp_driver.specs.declared.answers.RunError.{RunError}
 use Rattle.lp_driver.specs.declared.answers.RunError.TheVariants as run
 use Rattle.lp_repr.specs.declared.values.RunItem.{RunItem}
-use Rattle.lp_edit.specs.Editing.{Editing, IsReused, edited}
+use Rattle.lp_edit.specs.Editing.{Editing, IsReused, edited, editing}
+use Rattle.lp_edit.specs.declared.editor.Editor.{Editor}
 use Rattle.lp_edit.specs.declared.editor.EditFault.{EditFault}
 use Rattle.lp_edit.specs.declared.editor.EditFault.TheVariants.{Range, Memory}
 
+-- what an editor is
+abbrev pub editing_of : Editor → Editing
+editing_of e = editing e.with e.items.items
+
 -- no editor comes exactly where the counts of parameters differ
-abbrev pub Begins : Result Editing RunError → Editing → Type 0
-Begins (Ok e) wanted = (length wanted.values ≡ length wanted.grammar.parameters) × (e ≡ wanted)
+abbrev pub Begins : Result Editor RunError → Editing → Type 0
+Begins (Ok e) wanted = (length wanted.values ≡ length wanted.grammar.parameters) × (editing_of e ≡ wanted)
 Begins (Err run.ParameterCount) wanted = length wanted.values ≢ length wanted.grammar.parameters
 Begins (Err run.Memory) wanted = Unit {0}
 Begins (Err run.NoStart) wanted = ⊥

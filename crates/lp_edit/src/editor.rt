@@ -1,9 +1,9 @@
 //! An editor of tokens.
 
-ghost use Rattle.std.specs.Prelude.{◌≡◌, ◌+◌, ◌≤◌, false, map};
-ghost use Rattle.lp_edit.specs.Answers.{Begins, Edits};
-ghost use Rattle.lp_edit.specs.Editing.{at_end};
-ghost use Rattle.lp_machine.specs.RunEnds.{call_of, ended, outcome_ending};
+ghost use Rattle.std.specs.Prelude.{◌≡◌, false, length};
+ghost use Rattle.lp_edit.specs.Editing.{editing};
+ghost use Rattle.lp_edit.specs.Saves.{AreSaves, IsRun};
+ghost use Rattle.lp_push.specs.Answers.{parser_of};
 
 use crate::copies::edited;
 use crate::run::{Arguments, Run, STRIDE};
@@ -13,7 +13,6 @@ use lp_repr::repr::Grammar;
 use lp_repr::text::Text;
 use lp_repr::values::{Event, Outcome, RunItem};
 use std::alloc::{AllocError, Global};
-use std::marker::Model;
 
 /// Tokens with their run, and a saved parser after every 16 of them.
 #[derive(Drop)]
@@ -21,6 +20,9 @@ pub struct Editor<'g> {
     with: Arguments<'g>,
     items: Vec<RunItem>,
     run: Run<'g>,
+    ghost plain: { with.grammar.now.uses_error_recovery ≡ false },
+    ghost ran: { IsRun (editing with items.items) (parser_of run.parser).state run.outcome },
+    ghost saved: { AreSaves (editing with items.items) (length items.items) 0 run.saves.items },
 }
 
 /// Why tokens are not edited. The editor is as it was.
@@ -54,20 +56,12 @@ impl From<RunError> for EditFault {
     }
 }
 
-impl<'g> Model for Editor<'g> {
-    ghost use Rattle.std.specs.Prelude.{◌≡◌, false, length};
-    ghost use Rattle.lp_edit.specs.Editing.{Editing, editing};
-    ghost use Rattle.lp_edit.specs.Saves.{AreSaves, IsRun};
-    ghost use Rattle.lp_push.specs.Answers.{parser_of};
-
-    ghost Value = { Editing };
-
-    ghost view = { λ e. editing e.with e.items.items };
-
-    ghost invariant = { λ e. let now = editing e.with e.items.items in (now.grammar.uses_error_recovery ≡ false) × IsRun now (parser_of e.run.parser).state e.run.outcome × AreSaves now (length now.items) 0 e.run.saves.items };
-}
-
 impl<'g> Editor<'g> {
+    ghost use Rattle.std.specs.Prelude.{map};
+    ghost use Rattle.lp_edit.specs.Answers.{Begins, Edits, editing_of};
+    ghost use Rattle.lp_edit.specs.Editing.{at_end};
+    ghost use Rattle.lp_machine.specs.RunEnds.{call_of, ended, outcome_ending};
+
     /// An editor of these tokens, whose runs make at most so many moves. The parameters' values are as many as the grammar's
     /// parameters, else it answers `ParameterCount`; the calls whose numbers are in `failing` fail where they can. The grammar
     /// uses no error recovery.
@@ -103,7 +97,7 @@ impl<'g> Editor<'g> {
         remove: usize,
         insert: Vec<RunItem>,
     ) -> Result<usize, EditFault>
-        ensures { Edits result at remove insert.items self.old self.new }
+        ensures { Edits result at remove insert.items (editing_of self.old) (editing_of self.new) }
     {
         let len = self.items.len();
         if at > len || remove > len - at {
@@ -121,21 +115,21 @@ impl<'g> Editor<'g> {
 
     /// The tokens.
     pub fn items(&self) -> &[RunItem]
-        ensures { result.now ≡ self.now.items }
+        ensures { result.now ≡ (editing_of self.now).items }
     {
         self.items.as_slice()
     }
 
     /// The calls of user code of the stack machine's run on the tokens.
     pub fn events(&self) -> &[Event]
-        ensures { map call_of result.now ≡ (at_end self.now).calls }
+        ensures { map call_of result.now ≡ (at_end (editing_of self.now)).calls }
     {
         self.run.parser.events()
     }
 
     /// How that run ends.
     pub fn outcome(&self) -> &Outcome
-        ensures { outcome_ending result.now ≡ ended (at_end self.now).left }
+        ensures { outcome_ending result.now ≡ ended (at_end (editing_of self.now)).left }
     {
         &self.run.outcome
     }

@@ -114,7 +114,7 @@ impl<'g> Run<'g> {
     /// Becomes another run, which goes on behind the first of the saved parsers, so many. There is room for those of the other.
     pub fn becomes(&mut self, other: Run<'g>, count: usize)
         requires { vec_len self.old.saves + vec_len other.saves ≤ vec_capacity self.old.saves }
-        ensures { Becomes self.old other count self.new }
+        ensures { Becomes self.old other.entry count self.new }
     {
         let Run {
             parser,
