@@ -1,19 +1,26 @@
 -- What an edit leaves of a run, and that the run of all tokens is the stack machine's.
-use Rattle.std.proofs.Common.{◌≡◌, ◌⊎◌, ⊎_elim, ℕ, zero, suc, ◌+◌, ◌-◌, ◌*◌, ◌<◌, ◌≤◌, Bool, false, List, [], ◌∷◌, ◌++◌, length, take, drop, Option, Some, None, refl, sym, ap, ◌∙◌, subst, arith, length-append, append-nil}
+use Rattle.std.proofs.Common.{◌≡◌, ◌⊎◌, ⊎_elim, ℕ, zero, suc, ◌+◌, ◌-◌, ◌*◌, ◌<◌, ◌≤◌, Bool, false, List, [], ◌∷◌, ◌++◌, length, take, drop, Option, Some, None, refl, sym, ap, ◌∙◌, subst, arith, length-append, append-nil, map}
 use Rattle.std.specs.Prelude.{slice_get}
 use Rattle.std.proofs.Math.Seq.{take-length}
 use Rattle.std.proofs.lemmas.Bool.{cases_lt}
 use Rattle.std.proofs.lemmas.List.{length-take-le, take-append-drop, take-append-le}
-use Rattle.std.proofs.lemmas.Option.{slice_get-get_or, slice_get_within}
+use Rattle.std.proofs.lemmas.Option.{same_Some, slice_get-get_or, slice_get_within}
 use Rattle.lp_driver.specs.declared.answers.Expecting.TheVariants.{Trial}
+use Rattle.lp_machine.specs.RunEnds.{call_of, ended, outcome_ending}
+use Rattle.lp_push.specs.Answers.{TellsCalls, parser_of}
 use Rattle.lp_push.specs.Cuttings.{CuttingsRun, Many, Ran}
 use Rattle.lp_push.specs.States.{after_all, begun, finished, state_of}
+use Rattle.lp_push.specs.declared.push.Push.{Push}
 use Rattle.lp_push.specs.declared.state.Saved.{Saved}
 use Rattle.lp_push.specs.declared.state.State.{State}
 use Rattle.lp_repr.proofs.Lists.{slice_get_left, slice_get_past_left}
+use Rattle.lp_repr.specs.declared.values.Event.{Event}
+use Rattle.lp_repr.specs.declared.values.Outcome.{Outcome}
 use Rattle.lp_repr.specs.declared.values.RunItem.{RunItem}
-use Rattle.lp_edit.specs.Editing.{Editing, IsReused, Wants, edited, state_after, tables_in}
-use Rattle.lp_edit.specs.Saves.{AreSaved, AreSaves, IsSaved}
+use Rattle.lp_edit.specs.Editing.{Editing, IsReused, Wants, at_end, edited, editing, state_after, tables_in}
+use Rattle.lp_edit.specs.Saves.{AreSaved, AreSaves, IsRun, IsSaved}
+use Rattle.lp_edit.specs.declared.run.Arguments.{Arguments}
+use Rattle.lp_edit.specs.declared.run.Run.{Run}
 
 -- the tokens in front of an edit stay
 front : (items : List RunItem) (at n : ℕ) (rest : List RunItem) → n ≤ at → at ≤ length items → take n (take at items ++ rest) ≡ take n items
@@ -91,3 +98,35 @@ ran law e none =
     let whole = law e.grammar e.states Trial e.values e.failing e.most (Many e.items ∷ []) none in
     subst (λ (items : List RunItem). Ran t e.most items (finished t (state_after e (length e.items)))) (append-nil e.items)
     (subst (λ (s : State). Ran t e.most (e.items ++ []) (finished t s)) (sym all) whole)
+
+-- the same of what the calls of an editor were handed
+module _ (a : Arguments) (olds news : List RunItem) (at remove : ℕ) (insert : List RunItem) (within : at ≤ length olds) (is : news ≡ edited olds at remove insert) (saves those : List Saved) (same : those ≡ saves) (saved : AreSaves (editing a olds) (length olds) 0 saves) (count : ℕ) (few : count ≤ length saves) (before : 16 * count ≤ at) where
+  pub kept_saves : AreSaved (editing a news) (length news) 0 (take count those)
+  kept_saves =
+      let P : List RunItem → Type 0 = λ items. AreSaved (editing a items) (length items) 0 (take count those) in
+      let Q : List Saved → Type 0 = λ ss. AreSaved (editing a (edited olds at remove insert)) (length (edited olds at remove insert)) 0 (take count ss) in
+      subst P (sym is) (subst Q (sym same) (kept_saved (editing a olds) at remove insert within saves saved count few before))
+
+  pub joined_saves : (more all : List Saved) → AreSaves (editing a news) (length news) (length (take count those)) more → all ≡ take count those ++ more → AreSaves (editing a news) (length news) 0 all
+  joined_saves more all m parts =
+      let length_is : length (take count those) ≡ count = ap (λ ss. length (take count ss)) same ∙ length-take-le count saves few in
+      let P : List RunItem → Type 0 = λ items. AreSaves (editing a items) (length items) count more in
+      let Q : List RunItem → Type 0 = λ items. AreSaves (editing a items) (length items) 0 all in
+      let m' = subst P is (subst (λ (k : ℕ). AreSaves (editing a news) (length news) k more) length_is m) in
+      let whole : all ≡ take count saves ++ more = parts ∙ ap (λ ss. take count ss ++ more) same in
+      subst Q (sym is) (subst (AreSaves (editing a (edited olds at remove insert)) (length (edited olds at remove insert)) 0) (sym whole) (joined (editing a olds) at remove insert within saves saved count few before more m'))
+
+pub becomes_run : (a : Arguments) (items items' : List RunItem) (run next : Run) → items ≡ items' → next.parser ≡ run.parser → next.outcome ≡ run.outcome → IsRun (editing a items) (parser_of run.parser).state run.outcome → IsRun (editing a items') (parser_of next.parser).state next.outcome
+becomes_run a items items' run next same parser outcome is =
+    let P : List RunItem → Type 0 = λ i. IsRun (editing a i) (parser_of next.parser).state next.outcome in
+    let Q : Push → Type 0 = λ p. IsRun (editing a items) (parser_of p).state next.outcome in
+    let R : Outcome → Type 0 = λ o. IsRun (editing a items) (parser_of run.parser).state o in
+    subst P same (subst Q (sym parser) (subst R (sym outcome) is))
+
+-- the calls and the end of the run of all tokens
+module _ (law : CuttingsRun) (e : Editing) (plain : e.grammar.uses_error_recovery ≡ false) (state : Option State) (outcome : Outcome) (run : IsRun e state outcome) where
+  pub calls_told : (events : List Event) → TellsCalls events state → map call_of events ≡ (at_end e).calls
+  calls_told events told = (let calls = subst (TellsCalls events) run.is told in calls ∙ (ran law e plain).0)
+
+  pub end_told : outcome_ending outcome ≡ ended (at_end e).left
+  end_told = same_Some (outcome_ending outcome) (ended (at_end e).left) (sym run.ends ∙ (ran law e plain).1)
