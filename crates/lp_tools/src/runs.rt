@@ -1,8 +1,9 @@
 //! What the runs of a grammar file take of it.
 
-ghost use Rattle.std.specs.Prelude.{◌≡◌, IfOk};
+ghost use Rattle.std.specs.Prelude.{◌≡◌, IfOk, option_copied};
+ghost use Rattle.std.specs.List.{find};
 ghost use Rattle.lp_repr.specs.Names.{same_text};
-ghost use Rattle.lp_tools.specs.Runs.{states_in, states_of, values_of};
+ghost use Rattle.lp_tools.specs.Runs.{states_of, values_of};
 
 use lp_repr::repr::Grammar;
 use lp_repr::{Lr1State, StartStates, Text};
@@ -23,13 +24,20 @@ pub fn parameter_values(alloc: Global, grammar: &Grammar) -> Result<Vec<Text>, A
 pub fn states_of<'t>(tables: &'t [StartStates], name: &Text) -> &'t [Lr1State]
     ensures { result.now ≡ states_of tables.now name.now }
 {
-    match tables.iter().find(|table| is_start(table, name)) {
+    match table_of(tables, name) {
         None => &[],
         Some(table) => table.states.as_slice(),
     }
 }
 
-/// The table is that of the start of this public name.
+/// The table of the start of this public name.
+fn table_of<'t>(tables: &'t [StartStates], name: &Text) -> Option<&'t StartStates>
+    ensures { option_copied result ≡ find (λ table. same_text table.start.0 name.now) tables.now }
+{
+    tables.iter().find(|table| is_start(table, name))
+}
+
+/// The start of a table has this public name.
 fn is_start(table: &StartStates, name: &Text) -> bool
     ensures { result ≡ same_text table.now.start.0 name.now }
 {

@@ -1,8 +1,9 @@
 -- The calls of the run of all tokens.
+use Rattle.lp_push.proofs.Cut.{cuttings_run}
 use Rattle.lp_push.specs.Answers.{parser_of}
 use Rattle.lp_edit.specs.Answers.{editing_of}
 use Rattle.lp_edit.proofs.Joining.{calls_told}
 use Rattle.lp_edit.proofs.editor.Editor.events.Goals as goal
 
 pub returns : goal.returns
-returns c = calls_told ? (editing_of c.args.self.now) c.args.self.now.plain (parser_of c.args.self.now.run.parser).state c.args.self.now.run.outcome c.args.self.now.ran c.events.result.now c.events.ensures
+returns c = calls_told cuttings_run (editing_of c.args.self.now) c.args.self.now.plain (parser_of c.args.self.now.run.parser).state c.args.self.now.run.outcome c.args.self.now.ran c.events.result.now c.events.ensures
