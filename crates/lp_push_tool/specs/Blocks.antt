@@ -1,5 +1,6 @@
 -- The blocks of lines whose items are handed in piece by piece.
 use Rattle.std.specs.Prelude.{◌≡◌, ◌≤◌, ℕ, zero, suc, List, [], length, map, Option, Some, None, slice_get}
+use Rattle.std.specs.Option.{option_map}
 use Rattle.lp_lines.specs.TokenLines.{RefusesLine, lines_of}
 use Rattle.lp_lines.specs.Vocabularies.{vocabulary_of}
 use Rattle.lp_lines.specs.declared.token_line.LineFault.TheVariants.{Line}
@@ -41,4 +42,4 @@ IsMisfit f number = RefusesLine (map (push_line_of (vocabulary_of f.grammar)) (l
 
 -- a parser took the items, piece by piece
 abbrev pub HandsIn : List (List RunItem) → Parser → Parser → Type 0
-HandsIn pieces before after = (s : State) → before.state ≡ Some s → after ≡ with_state before (Some (handed_all before.tables s (map Many pieces)))
+HandsIn pieces before after = after ≡ with_state before (option_map (λ s. handed_all before.tables s (map Many pieces)) before.state)

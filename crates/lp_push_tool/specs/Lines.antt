@@ -20,7 +20,7 @@ pieces_of v parts = all_some (map (items_of v) (slice_split is_bar parts))
 -- the parts together, where each is there
 abbrev pub together : Option (List ℕ) → Option ℕ → Option (List ℕ) → Option (List (List RunItem)) → Option PushLine
 together (Some start) (Some budget) (Some failing) (Some pieces) =
-    Some (record { start = start; budget = budget; failing = failing; pieces = pieces })
+    Some (record { head = record { start = start; budget = budget; failing = failing }; pieces = pieces })
 together _ _ _ _ = None
 
 -- a line of these parts
@@ -35,4 +35,4 @@ push_line_of v line = push_line_of_parts v (split_all line 32)
 
 -- the token line without its `|`
 abbrev pub without_bars : PushLine → TokenLine
-without_bars line = record { start = line.start; budget = line.budget; failing = line.failing; items = flat_map (λ piece. piece) line.pieces }
+without_bars line = record { start = line.head.start; budget = line.head.budget; failing = line.head.failing; items = flat_map (λ piece. piece) line.pieces }

@@ -6,5 +6,5 @@ mod pieces;
 mod runs;
 mod tool;
 
-pub use lines::{PushLine, push_line};
+pub use lines::{LineHead, PushLine, push_line};
 pub use tool::{PushReport, push_tool};

@@ -10,15 +10,21 @@ use lp_lines::token_line::{budget_of, failing_of};
 use lp_repr::{Items, Text};
 use std::alloc::{AllocError, Global};
 
-/// A token line in which `|` may stand among the items.
+/// What stands in front of the items of a token line.
 #[derive(Drop)]
-pub struct PushLine {
+pub struct LineHead {
     /// A public name.
     pub start: Text,
     /// How many moves its run may make.
     pub budget: u64,
     /// The numbers of the fallible calls that fail.
     pub failing: Items<u64>,
+}
+
+/// A token line in which `|` may stand among the items.
+#[derive(Drop)]
+pub struct PushLine {
+    pub head: LineHead,
     /// What stands between two `|`; one piece where none stands.
     pub pieces: Items<Piece>,
 }
@@ -61,10 +67,10 @@ fn of_parts(
     let Some(pieces) = pieces(alloc, vocabulary, &parts[3..])? else {
         return Ok(None);
     };
-    Ok(Some(PushLine {
+    let head = LineHead {
         start,
         budget,
         failing,
-        pieces,
-    }))
+    };
+    Ok(Some(PushLine { head, pieces }))
 }

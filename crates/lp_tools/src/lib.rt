@@ -7,6 +7,6 @@ mod status;
 mod tool;
 
 pub use program::{ended, words};
-pub use runs::{parameter_values, states_of};
+pub use runs::{append_run, parameter_values, states_of};
 pub use status::{ToolStatus, status_line};
 pub use tool::{Tool, ToolReport, run_tool};

@@ -1,11 +1,14 @@
 //! What the runs of a grammar file take of it.
 
-ghost use Rattle.std.specs.Prelude.{◌≡◌, IfOk, option_copied};
+ghost use Rattle.std.specs.Prelude.{◌≡◌, ◌++◌, Some, None, IfOk, OnOk, option_copied, string_bytes};
 ghost use Rattle.std.specs.List.{find};
+ghost use Rattle.lp_lines.specs.Blocks.{block_text};
 ghost use Rattle.lp_repr.specs.Names.{same_text};
 ghost use Rattle.lp_tools.specs.Runs.{states_of, values_of};
 
+use lp_lines::{Block, append_block};
 use lp_repr::repr::Grammar;
+use lp_repr::values::{Event, Outcome};
 use lp_repr::{Lr1State, StartStates, Text};
 use std::alloc::{AllocError, Global};
 
@@ -42,4 +45,25 @@ fn is_start(table: &StartStates, name: &Text) -> bool
     ensures { result ≡ same_text table.now.start.0 name.now }
 {
     table.start.0 == *name
+}
+
+/// Appends the block of a run, without its steps.
+pub fn append_run(
+    out: &mut String,
+    number: u64,
+    start: &str,
+    events: &[Event],
+    outcome: &Outcome,
+) -> Result<(), AllocError>
+    ensures { OnOk result (string_bytes out.new ≡ string_bytes out.old ++ block_text number start.now events.now (Some outcome.now) None) }
+{
+    let outcome = Some(outcome);
+    let block = Block {
+        number,
+        start,
+        events,
+        outcome,
+        steps: None,
+    };
+    append_block(out, &block)
 }
