@@ -1,0 +1,2 @@
+//! Laws of what grammar files spell.
+#![tactic(auto)]
