@@ -14,7 +14,7 @@ use Rattle.lp_spelled_laws.specs.Tokens.{Token, Word, ◌before◌, IsSign, IsTe
 pub record Splits (ts : Left) (word : Word) (rest : Left) : Type 0 where
   pub is : ts ≡ word before rest
 
-before_append : (u v : Word) (rest : Left) → (u ++ v) before rest ≡ u before (v before rest)
+pub before_append : (u v : Word) (rest : Left) → (u ++ v) before rest ≡ u before (v before rest)
 before_append [] v rest = refl
 before_append (x ∷ u) v rest = ap (token x.0 x.1 x.2) (before_append u v rest)
 
