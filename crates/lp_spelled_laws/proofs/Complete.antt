@@ -2,3 +2,5 @@ pub mod Steps
 pub mod Lists
 pub mod Names
 pub mod Types
+pub mod Bounds
+pub mod Clauses

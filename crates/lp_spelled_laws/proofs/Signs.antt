@@ -165,3 +165,7 @@ begins_avoids (t ∷ avoided) signs kinds w rest b all =
 pub begins_more : (signs more_signs : List Tok) (kinds more_kinds : List Kind) (w : Word) → list_all (λ s. list_any (tok_eq s) more_signs) signs ≡ true → list_all (λ k. list_any (kind_eq k) more_kinds) kinds ≡ true → Begins signs kinds w → Begins more_signs more_kinds w
 begins_more signs more_signs kinds more_kinds [] all every b = b
 begins_more signs more_signs kinds more_kinds (x ∷ w) all every b = among_more signs kinds more_signs more_kinds x.1 all every b
+
+pub opens_more : (signs more_signs : List Tok) (kinds more_kinds : List Kind) (w : Word) → list_all (λ s. list_any (tok_eq s) more_signs) signs ≡ true → list_all (λ k. list_any (kind_eq k) more_kinds) kinds ≡ true → Opens signs kinds w → Opens more_signs more_kinds w
+opens_more signs more_signs kinds more_kinds [] all every o = tt
+opens_more signs more_signs kinds more_kinds (x ∷ w) all every o = among_more signs kinds more_signs more_kinds x.1 all every o

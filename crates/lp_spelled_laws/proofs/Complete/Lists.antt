@@ -1,14 +1,16 @@
 -- What is derived of lists is read.
-use Rattle.std.proofs.Common.{◌≡◌, ℕ, ◌+◌, ◌<◌, ◌≤◌, Bool, true, false, List, [], ◌∷◌, ◌++◌, Option, Some, None, zero, suc, refl, sym, ap, ◌∙◌, subst, arith}
+use Rattle.std.proofs.Common.{◌≡◌, ℕ, ◌+◌, ◌<◌, ◌≤◌, Bool, true, false, not, List, [], ◌∷◌, ◌++◌, Option, Some, None, zero, suc, refl, sym, ap, ◌∙◌, subst, arith}
+use Rattle.std.specs.List.{list_all, list_any}
 use Rattle.lp_tok.specs.declared.tok.Tok.{Tok}
 use Rattle.lp_tok.specs.declared.tok.Tok.TheVariants.{Comma}
+use Rattle.lp_types.specs.declared.texts.Kind.{Kind}
 use Rattle.lp_types.specs.Left.{Left, token, next, size}
 use Rattle.lp_types.specs.Marks.{is_tok, tok_eq}
 use Rattle.lp_types.specs.Reading.{Found, Reading, Read, ◌>>=◌, then, choose, give, fail, seen, where_next, many, after_one, repeated, separated, listed}
 use Rattle.lp_types.proofs.Steps.{read_then}
 use Rattle.lp_spelled_laws.specs.Tokens.{Token, Word, ◌before◌, IsSign}
 use Rattle.lp_spelled_laws.proofs.Sound.Steps.{before_append}
-use Rattle.lp_spelled_laws.proofs.Signs.{other_sign}
+use Rattle.lp_spelled_laws.proofs.Signs.{other_sign, Begins, Opens, begins_no_sign, begins_grow, Avoids, avoids_sign}
 use Rattle.lp_spelled_laws.proofs.Complete.Steps.{Finds, found_so, then_finds, then_at, finds_as, passed_hit, passed_miss, where_hit, where_miss}
 
 module _ {A : Type 0} (one : Reading A) (closer : Tok) where
@@ -72,3 +74,26 @@ module _ {A : Type 0} (one : Reading A) (closer : Tok) where
   pub all_read : (w : Word) (xs : List A) → ItemsRead w xs → (sign : Token) (rest : Left) → IsSign closer sign → Finds xs rest (repeated (listed closer one) (w before token sign.0 sign.1 sign.2 rest))
   unfolding repeated
   all_read w xs items sign rest is = items (suc (size (w before token sign.0 sign.1 sign.2 rest))) sign rest is (omega arith)
+
+-- words that begin with one of the signs and kinds, and are read as x before whatever is none of the stops
+pub record Reads {A : Type 0} (one : Reading A) (signs : List Tok) (kinds : List Kind) (stops : List Tok) (w : Word) (x : A) : Type 0 where
+  pub begins : Begins signs kinds w
+  pub reads : (rest : Left) → Avoids stops rest → Finds x rest (one (w before rest))
+
+-- the same of words that may be empty
+pub record MayRead {A : Type 0} (one : Reading A) (signs : List Tok) (kinds : List Kind) (stops : List Tok) (w : Word) (x : A) : Type 0 where
+  pub opens : Opens signs kinds w
+  pub reads : (rest : Left) → Avoids stops rest → Finds x rest (one (w before rest))
+
+module _ {A : Type 0} (one : Reading A) (signs : List Tok) (kinds : List Kind) (stops : List Tok) where
+  pub item_read : (closer : Tok) (w : Word) (x : A) → list_any (tok_eq closer) signs ≡ false → list_all (λ s. not (tok_eq closer s)) stops ≡ true → list_all (λ s. not (tok_eq Comma s)) stops ≡ true → Reads one signs kinds stops w x → ItemRead one closer w x
+  item_read closer w x no_sign no_stop no_comma item = record {
+    begins = λ rest. begins_no_sign signs kinds w rest closer item.begins no_sign;
+    before_comma = λ sign rest h. item.reads (token sign.0 sign.1 sign.2 rest) (avoids_sign stops Comma sign rest h no_comma);
+    before_closer = λ sign rest h. item.reads (token sign.0 sign.1 sign.2 rest) (avoids_sign stops closer sign rest h no_stop);
+    grows = λ rest. begins_grow signs kinds w rest item.begins;
+  }
+
+-- a word with one token behind it
+pub with_last : (w : Word) (x : Token) (rest : Left) → (w ++ x ∷ []) before rest ≡ w before token x.0 x.1 x.2 rest
+with_last w x rest = before_append w (x ∷ []) rest

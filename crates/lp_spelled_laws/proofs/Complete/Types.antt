@@ -17,7 +17,7 @@ use Rattle.lp_types.proofs.Steps.{read_then}
 use Rattle.lp_spelled_laws.specs.Tokens.{Token, Word, ◌before◌, IsSign, IsText}
 use Rattle.lp_spelled_laws.proofs.Sound.Steps.{before_append}
 use Rattle.lp_spelled_laws.proofs.Signs.{other_sign, other_text, text_no_sign, sign_no_text, among_sign, among_text, among_more, Begins, Opens, begins_more, begins_append, begins_no_sign, begins_no_text, opens_no_sign, opens_no_text, begins_grow, Avoids, avoids_sign, opens_avoids}
-use Rattle.lp_spelled_laws.proofs.Complete.Lists.{ItemRead, ItemsRead, all_read}
+use Rattle.lp_spelled_laws.proofs.Complete.Lists.{ItemRead, ItemsRead, all_read, with_last}
 use Rattle.lp_spelled_laws.proofs.Complete.Names.{Unnamed, no_equals, no_name, name_kinds, path_signs, PathRead}
 use Rattle.lp_spelled_laws.proofs.Complete.Steps.{Finds, found_so, too_deep, then_finds, then_at, finds_as, passed_hit, passed_miss, taken_hit, taken_miss, where_hit, where_miss, expected_hit}
 
@@ -96,11 +96,9 @@ argument_item lifetimes closer depth w t no_type no_stop argument = record {
 abbrev pub TypesRead : Bool → Tok → Word → List TypeTree → Type 0
 TypesRead lifetimes closer w types = (depth : ℕ) → ItemsRead (argument_by (type_within depth) lifetimes) closer w types
 
-pub types_read : (lifetimes : Bool) (closer : Tok) (depth : ℕ) (w : Word) (types : List TypeTree) (right : Token) (rest : Left) → TypesRead lifetimes closer w types → IsSign closer right → Finds types rest (types_by (type_within depth) lifetimes closer ((w ++ right ∷ []) before rest))
+pub types_read : (lifetimes : Bool) (closer : Tok) (depth : ℕ) (w : Word) (types : List TypeTree) (right : Token) (rest : Left) → TypesRead lifetimes closer w types → IsSign closer right → Finds types rest (types_by (type_within depth) lifetimes closer (w before token right.0 right.1 right.2 rest))
 unfolding types_by
-types_read lifetimes closer depth w types right rest items h =
-    subst (λ ts. Finds types rest (types_by (type_within depth) lifetimes closer ts)) (sym (before_append w (right ∷ []) rest))
-    (all_read (argument_by (type_within depth) lifetimes) closer w types (items depth) right rest h)
+types_read lifetimes closer depth w types right rest items h = all_read (argument_by (type_within depth) lifetimes) closer w types (items depth) right rest h
 
 pub no_arguments_read : ArgumentsRead [] []
 unfolding arguments_by
@@ -111,7 +109,7 @@ unfolding arguments_by
 some_arguments_read left right w types h items is = record {
   opens = among_sign (LessThan ∷ []) [] LessThan left.1 h refl;
   reads = λ depth rest none.
-      finds_as (arguments_by (type_within depth) ((left ∷ (w ++ right ∷ [])) before rest)) _ (where_hit LessThan (types_by (type_within depth) true GreaterThan) (give []) left ((w ++ right ∷ []) before rest) h)
+      finds_as (arguments_by (type_within depth) ((left ∷ (w ++ right ∷ [])) before rest)) _ (where_hit LessThan (types_by (type_within depth) true GreaterThan) (give []) left ((w ++ right ∷ []) before rest) h ∙ ap (types_by (type_within depth) true GreaterThan) (with_last w right rest))
       (types_read true GreaterThan depth w types right rest items is);
 }
 
@@ -132,9 +130,10 @@ pub tuple_read : (left right : Token) (w : Word) (types : List TypeTree) → IsS
 unfolding type_by tuple_by
 tuple_read left right w types h items is =
     signed LeftParen left (w ++ right ∷ []) (tuple_type (trees_of types)) h refl λ depth rest avoids.
-    finds_as (type_by (type_within depth) ((left ∷ (w ++ right ∷ [])) before rest)) (tuple_by (type_within depth) ((w ++ right ∷ []) before rest))
-    (where_hit LeftParen (tuple_by (type_within depth)) _ left ((w ++ right ∷ []) before rest) h)
-    (then_finds (types_by (type_within depth) false RightParen ((w ++ right ∷ []) before rest)) _ (types_read false RightParen depth w types right rest items is) (found_so refl))
+    let mid : Left = w before token right.0 right.1 right.2 rest in
+    finds_as (type_by (type_within depth) ((left ∷ (w ++ right ∷ [])) before rest)) (tuple_by (type_within depth) mid)
+    (where_hit LeftParen (tuple_by (type_within depth)) _ left ((w ++ right ∷ []) before rest) h ∙ ap (tuple_by (type_within depth)) (with_last w right rest))
+    (then_finds (types_by (type_within depth) false RightParen mid) _ (types_read false RightParen depth w types right rest items is) (found_so refl))
 
 pub slice_read : (left right : Token) (w : Word) (element : TypeTree) → IsSign LeftBracket left → TypeRead w element → IsSign RightBracket right → TypeRead (left ∷ (w ++ right ∷ [])) (slice_type element)
 unfolding type_by slice_by
@@ -145,7 +144,7 @@ slice_read left right w element h type is =
     finds_as (type_by (type_within depth) (token left.0 left.1 left.2 ts)) (slice_by (type_within depth) (w before mid))
     (where_miss LeftParen _ _ (token left.0 left.1 left.2 ts) (other_sign LeftBracket LeftParen left.1 h refl)
       ∙ where_hit LeftBracket (slice_by (type_within depth)) _ left ts h
-      ∙ ap (slice_by (type_within depth)) (before_append w (right ∷ []) rest))
+      ∙ ap (slice_by (type_within depth)) (with_last w right rest))
     (then_finds (type_within depth (w before mid)) _ (type.reads depth mid (avoids_sign type_stops RightBracket right rest is refl))
       (then_at (expected RightBracket mid) _ (expected_hit RightBracket right rest is) (found_so refl)))
 
