@@ -4,3 +4,5 @@ pub mod Names
 pub mod Types
 pub mod Bounds
 pub mod Clauses
+pub mod Patterns
+pub mod Symbols
