@@ -6,3 +6,8 @@ pub mod Bounds
 pub mod Clauses
 pub mod Patterns
 pub mod Symbols
+pub mod Many
+pub mod Rules
+pub mod Heads
+pub mod Externs
+pub mod Files

@@ -1,5 +1,5 @@
 -- A token that is one sign is no other, and a token of one kind is of no other; what a word begins with.
-use Rattle.std.proofs.Common.{◌≡◌, ℕ, ◌+◌, ◌<◌, ◌≤◌, suc, Bool, true, false, not, List, [], ◌∷◌, ◌++◌, Option, Some, None, if◌then◌else◌, refl, sym, ap, ◌∙◌, ⊎_elim, arith}
+use Rattle.std.proofs.Common.{◌≡◌, ℕ, ◌+◌, ◌<◌, ◌≤◌, suc, Bool, true, false, not, ◌||◌, List, [], ◌∷◌, ◌++◌, Option, Some, None, if◌then◌else◌, refl, sym, ap, ◌∙◌, ⊎_elim, arith}
 use Rattle.std.proofs.lemmas.Bool.{cases_Bool, or_cases, or_left, or_right, and_parts}
 use Rattle.std.specs.Cmp.{IsEquivalence}
 use Rattle.std.specs.List.{list_all, list_any}
@@ -169,3 +169,20 @@ begins_more signs more_signs kinds more_kinds (x ∷ w) all every b = among_more
 pub opens_more : (signs more_signs : List Tok) (kinds more_kinds : List Kind) (w : Word) → list_all (λ s. list_any (tok_eq s) more_signs) signs ≡ true → list_all (λ k. list_any (kind_eq k) more_kinds) kinds ≡ true → Opens signs kinds w → Opens more_signs more_kinds w
 opens_more signs more_signs kinds more_kinds [] all every o = tt
 opens_more signs more_signs kinds more_kinds (x ∷ w) all every o = among_more signs kinds more_signs more_kinds x.1 all every o
+
+some_kind : (b : Bool) (x : List ℕ) → b ≡ true → (if b then Some x else None) ≡ Some x
+some_kind true x h = refl
+some_kind false x h = absurd cc
+
+-- a token of one kind has a text
+pub among_one : (k : Kind) (m : Mark) → among [] (k ∷ []) m ≡ true → (text : List ℕ) × (text_of k (Some m) ≡ Some text)
+among_one k (Plain u) h = absurd cc
+among_one k (With j x) h = (x, some_kind (kind_eq k j) x (kind_law.laws-law.symm k j ∙ or_no (kind_eq j k) h))
+  where
+    or_no : (b : Bool) → (b || false) ≡ true → b ≡ true
+    or_no true e = refl
+    or_no false e = e
+
+pub begins_text : (k : Kind) (w : Word) (rest : Left) → Begins [] (k ∷ []) w → (text : List ℕ) × (text_of k (next (w before rest)) ≡ Some text)
+begins_text k [] rest b = absurd b
+begins_text k (x ∷ w) rest b = among_one k x.1 b

@@ -2,10 +2,11 @@
 use Rattle.std.proofs.Common.{◌≡◌, ℕ, Bool, true, false, List, [], ◌∷◌, ◌++◌, Option, Some, None, refl, sym, ap, ◌∙◌}
 use Rattle.lp_tok.specs.declared.tok.Tok.{Tok}
 use Rattle.lp_types.specs.declared.texts.Kind.{Kind}
+use Rattle.lp_types.specs.declared.texts.Kind.TheVariants as kind
 use Rattle.lp_types.specs.Left.{Left, token, next, after}
 use Rattle.lp_types.specs.Marks.{is_tok, text_of}
-use Rattle.lp_types.specs.Reading.{Found, Read, Deep, Reading, then, choose, give, fail, passed, passed_if, where_next, expected, taken, taken_if, text, needed}
-use Rattle.lp_spelled_laws.specs.Tokens.{Token, IsSign, IsText}
+use Rattle.lp_types.specs.Reading.{Found, Read, Deep, Reading, then, choose, give, fail, passed, passed_if, where_next, expected, taken, taken_if, text, needed, is_word, passed_word, expected_word}
+use Rattle.lp_spelled_laws.specs.Tokens.{Token, IsSign, IsText, IsName}
 
 -- this is read, but for want of room
 pub data Finds {A : Type 0} (x : A) (rest : Left) (found : Found A) : Type 0 where
@@ -58,3 +59,15 @@ taken_miss k ts h = ap (λ o. taken_if o ts) h
 pub text_hit : (k : Kind) (name : List ℕ) (x : Token) (rest : Left) → IsText k name x → text k (token x.0 x.1 x.2 rest) ≡ Read name rest
 unfolding text then
 text_hit k name x rest h = ap (λ z. then z needed) (taken_hit k name x rest h)
+
+pub passed_word_hit : (word : List ℕ) (x : Token) (rest : Left) → IsName word x → passed_word word (token x.0 x.1 x.2 rest) ≡ Read true rest
+unfolding passed_word
+passed_word_hit word x rest h = ap (λ b. passed_if b (token x.0 x.1 x.2 rest)) h
+
+pub passed_word_miss : (word : List ℕ) (ts : Left) → is_word word (text_of kind.Id (next ts)) ≡ false → passed_word word ts ≡ Read false ts
+unfolding passed_word
+passed_word_miss word ts h = ap (λ b. passed_if b ts) h
+
+pub word_hit : (word : List ℕ) (x : Token) (rest : Left) → IsName word x → expected_word word (token x.0 x.1 x.2 rest) ≡ Read tt rest
+unfolding expected_word then choose
+word_hit word x rest h = ap (λ z. then z (λ b. choose b (give tt) fail)) (passed_word_hit word x rest h)
