@@ -11,3 +11,4 @@ pub mod Rules
 pub mod Heads
 pub mod Externs
 pub mod Files
+pub mod Fold

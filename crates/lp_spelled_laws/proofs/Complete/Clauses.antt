@@ -119,7 +119,7 @@ from_not true h = refl
 from_not false h = sym h
 
 -- after the last clause its end comes, and none of the signs that could go on
-ends_clauses : (stops : List Tok) (rest : Left) → goes_on rest ≡ false → list_all (λ s. not (tok_eq Semi s)) stops ≡ true → Avoids stops rest
+pub ends_clauses : (stops : List Tok) (rest : Left) → goes_on rest ≡ false → list_all (λ s. not (tok_eq Semi s)) stops ≡ true → Avoids stops rest
 ends_clauses stops (token from m to rest) h all = avoids_sign stops Semi (from, m, to) rest (from_not (is_tok Semi (Some m)) h) all
 ends_clauses stops (ends n) h all = nothing_comes stops
   where
