@@ -2,3 +2,12 @@ pub mod Steps
 pub mod Names
 pub mod Lists
 pub mod Types
+pub mod Bounds
+pub mod Clauses
+pub mod Patterns
+pub mod Symbols
+pub mod Many
+pub mod Rules
+pub mod Heads
+pub mod Externs
+pub mod Files
