@@ -3,12 +3,13 @@ use Rattle.std.proofs.Common.{◌≡◌, ℕ, Bool, true, false, List, [], ◌�
 use Rattle.lp_tok.specs.declared.tok.Tok.{Tok}
 use Rattle.lp_tok.specs.declared.tok.Tok.TheVariants.{Comma}
 use Rattle.lp_types.specs.declared.texts.Kind.{Kind}
+use Rattle.lp_types.specs.declared.texts.Kind.TheVariants as kind
 use Rattle.lp_types.specs.Left.{Left, token, ends, breaks, next, after}
 use Rattle.lp_types.specs.Marks.{is_tok, text_of}
-use Rattle.lp_types.specs.Reading.{Found, Read, Fails, Deep, Reading, then, choose, give, fail, passed, passed_if, where_next, expected, taken, taken_if, text, needed, seen}
+use Rattle.lp_types.specs.Reading.{Found, Read, Fails, Deep, Reading, then, choose, give, fail, passed, passed_if, where_next, expected, taken, taken_if, text, needed, seen, is_word, passed_word, expected_word}
 use Rattle.lp_spelled_laws.specs.Nonterminals.{Nonterminal, Meaning}
 use Rattle.lp_spelled_laws.specs.Productions.{Derives}
-use Rattle.lp_spelled_laws.specs.Tokens.{Token, Word, ◌before◌, IsSign, IsText}
+use Rattle.lp_spelled_laws.specs.Tokens.{Token, Word, ◌before◌, IsSign, IsText, IsName}
 
 -- these are the tokens of a word, and those that follow it
 pub record Splits (ts : Left) (word : Word) (rest : Left) : Type 0 where
@@ -112,6 +113,39 @@ text_then Q k ts f hit =
   where
     of_taken : (name : List ℕ) (mid : Left) → Taken k ts (Some name) mid → Holds Q (f name mid)
     of_taken _ _ (some_text x name mid s h) = hit x name mid s h
+
+-- this name comes next, or it doesn't
+pub data PassedWord (word : List ℕ) (ts : Left) : Bool → Left → Type 0 where
+  name_next : (x : Token) (mid : Left) → Splits ts (x ∷ []) mid → IsName word x → PassedWord word ts true mid
+  name_not : is_word word (text_of kind.Id (next ts)) ≡ false → PassedWord word ts false ts
+
+word_by : (b : Bool) (word : List ℕ) (ts : Left) → is_word word (text_of kind.Id (next ts)) ≡ b → Holds (PassedWord word ts) (passed_if b ts)
+word_by true word (token from m to rest) h = name_next (from, m, to) rest (record { is = refl }) h
+word_by true word (ends n) h = absurd cc
+word_by true word (breaks e) h = absurd cc
+word_by false word ts h = name_not h
+
+-- after this name the one, else the other
+pub passed_word_then : {B : Type 0} (Q : B → Left → Type 0) (word : List ℕ) (ts : Left) (f : Bool → Reading B) → ((x : Token) (mid : Left) → Splits ts (x ∷ []) mid → IsName word x → Holds Q (f true mid)) → (is_word word (text_of kind.Id (next ts)) ≡ false → Holds Q (f false ts)) → Holds Q (then (passed_word word ts) f)
+unfolding passed_word
+passed_word_then Q word ts f hit miss = then_holds (PassedWord word ts) Q (passed_word word ts) f (word_by (is_word word (text_of kind.Id (next ts))) word ts refl) cases
+  where
+    cases : (b : Bool) (mid : Left) → PassedWord word ts b mid → Holds Q (f b mid)
+    cases _ _ (name_next x mid s h) = hit x mid s h
+    cases _ _ (name_not h) = miss h
+
+pub record NextName (word : List ℕ) (ts mid : Left) : Type 0 where
+  pub name : Token
+  pub splits : Splits ts (name ∷ []) mid
+  pub is : IsName word name
+
+-- this name comes next
+pub word_then : {B : Type 0} (Q : B → Left → Type 0) (word : List ℕ) (ts : Left) (f : Unit {0} → Reading B) → ((x : Token) (mid : Left) → Splits ts (x ∷ []) mid → IsName word x → Holds Q (f tt mid)) → Holds Q (then (expected_word word ts) f)
+unfolding expected_word choose
+word_then Q word ts f k =
+    then_holds (λ (u : Unit {0}) mid. NextName word ts mid) Q (expected_word word ts) f
+    (passed_word_then (λ (u : Unit {0}) mid. NextName word ts mid) word ts (λ b. choose b (give tt) fail) (λ x mid s h. record { name = x; splits = s; is = h }) (λ none. tt))
+    (λ u mid n. k n.name mid n.splits n.is)
 
 -- the tokens begin with a word that is derived of the nonterminal and means x
 pub record Spelled (n : Nonterminal) (ts : Left) (x : Meaning n) (rest : Left) : Type 0 where

@@ -21,6 +21,20 @@ use Rattle.lp_spelled_laws.proofs.Sound.Steps.{Splits, ◌⨾◌, nothing_split,
 abbrev IsType : Left → TypeTree → Left → Type 0
 IsType ts = Spelled Nonterminal.type ts
 
+maybe_lifetime_sound : Sound Nonterminal.maybe_lifetime (taken kind.Lifetime)
+maybe_lifetime_sound ts = map_holds (Taken kind.Lifetime ts) (Spelled Nonterminal.maybe_lifetime ts) (taken kind.Lifetime ts) (taken_holds kind.Lifetime ts) cases
+  where
+    cases : (o : Option (List ℕ)) (mid : Left) → Taken kind.Lifetime ts o mid → Spelled Nonterminal.maybe_lifetime ts o mid
+    cases _ _ (some_text x name mid s h) = record { word = x ∷ []; splits = s; derives = some_lifetime x name h }
+    cases _ _ (no_text h) = record { word = []; splits = nothing_split ts; derives = no_lifetime }
+
+pub maybe_mut_sound : Sound Nonterminal.maybe_mut (passed Mut)
+maybe_mut_sound ts = map_holds (Passed Mut ts) (Spelled Nonterminal.maybe_mut ts) (passed Mut ts) (passed_holds Mut ts) cases
+  where
+    cases : (b : Bool) (mid : Left) → Passed Mut ts b mid → Spelled Nonterminal.maybe_mut ts b mid
+    cases _ _ (is_next x mid s h) = record { word = x ∷ []; splits = s; derives = some_mut x h }
+    cases _ _ (is_not h) = record { word = []; splits = nothing_split ts; derives = no_mut }
+
 module _ (inner : Reading TypeTree) (sound : Sound Nonterminal.type inner) where
   type_argument_sound : (lifetimes : Bool) → Sound (Nonterminal.argument lifetimes) inner
   type_argument_sound lifetimes ts = map_holds (IsType ts) (Spelled (Nonterminal.argument lifetimes) ts) (inner ts) (sound ts) λ t rest s. record { word = s.word; splits = s.splits; derives = type_argument lifetimes s.word t s.derives }
@@ -58,20 +72,6 @@ module _ (inner : Reading TypeTree) (sound : Sound Nonterminal.type inner) where
       sound_then (IsType ts) Nonterminal.type inner mid _ sound λ w element behind e d.
       expected_then (IsType ts) RightBracket behind _ λ right rest closing is.
       record { word = left ∷ (w ++ right ∷ []); splits = s ⨾ e ⨾ closing; derives = slice left right w element h d is }
-
-  maybe_lifetime_sound : Sound Nonterminal.maybe_lifetime (taken kind.Lifetime)
-  maybe_lifetime_sound ts = map_holds (Taken kind.Lifetime ts) (Spelled Nonterminal.maybe_lifetime ts) (taken kind.Lifetime ts) (taken_holds kind.Lifetime ts) cases
-    where
-      cases : (o : Option (List ℕ)) (mid : Left) → Taken kind.Lifetime ts o mid → Spelled Nonterminal.maybe_lifetime ts o mid
-      cases _ _ (some_text x name mid s h) = record { word = x ∷ []; splits = s; derives = some_lifetime x name h }
-      cases _ _ (no_text h) = record { word = []; splits = nothing_split ts; derives = no_lifetime }
-
-  maybe_mut_sound : Sound Nonterminal.maybe_mut (passed Mut)
-  maybe_mut_sound ts = map_holds (Passed Mut ts) (Spelled Nonterminal.maybe_mut ts) (passed Mut ts) (passed_holds Mut ts) cases
-    where
-      cases : (b : Bool) (mid : Left) → Passed Mut ts b mid → Spelled Nonterminal.maybe_mut ts b mid
-      cases _ _ (is_next x mid s h) = record { word = x ∷ []; splits = s; derives = some_mut x h }
-      cases _ _ (is_not h) = record { word = []; splits = nothing_split ts; derives = no_mut }
 
   reference_sound : (ts mid : Left) (sign : Token) → Splits ts (sign ∷ []) mid → IsSign Ampersand sign → Holds (IsType ts) (reference_by inner mid)
   unfolding reference_by
