@@ -1,5 +1,6 @@
 pub mod FirstTableLemmas
 pub mod Listing
+mod NextBits
 pub mod Order
 pub mod TokenLists
 pub mod WordSteps

@@ -24,11 +24,11 @@ lists_more {set} {n} {xs} h at = record {
   exact = λ m. (λ c. ⊎_elim (λ (w : Contains xs m). let v = (h.exact m).0 w in (omega (arith, v.0), v.1)) (λ (e : n ≡ m). (omega arith, subst (λ k. Has set k) e at)) (Contains-push_cases xs n m c), λ v. ⊎_elim (λ (l : m < n). Contains-append_left xs (n ∷ []) m ((h.exact m).1 (l, v.1))) (λ (l : n ≤ m). let e : n ≡ m = omega (arith, v.0) in subst (λ k. Contains (xs ++ n ∷ []) k) e (Contains-push xs n)) (cases_lt m n));
 }
 
--- it doesn't
-pub lists_same : {set n : ℕ} {xs : List ℕ} → ListsBelow set n xs → (Has set n → ⊥) → ListsBelow set (n + 1) xs
-lists_same {set} {n} {xs} h absent = record {
+-- none of the next numbers does
+pub lists_gap : {set bound next : ℕ} {xs : List ℕ} → ListsBelow set bound xs → bound ≤ next → ((n : ℕ) → bound ≤ n → n < next → Has set n → ⊥) → ListsBelow set next xs
+lists_gap {set} {bound} {next} {xs} h l absent = record {
   ordered = h.ordered;
-  exact = λ m. (λ c. let v = (h.exact m).0 c in (omega (arith, v.0), v.1), λ v. ⊎_elim (λ (l : m < n). (h.exact m).1 (l, v.1)) (λ (l : n ≤ m). let e : m ≡ n = omega (arith, v.0) in absurd (absent (subst (λ k. Has set k) e v.1))) (cases_lt m n));
+  exact = λ m. (λ c. let v = (h.exact m).0 c in (omega (arith, v.0), v.1), λ v. ⊎_elim (λ (k : m < bound). (h.exact m).1 (k, v.1)) (λ (k : bound ≤ m). absurd (absent m k v.0 v.1)) (cases_lt m bound));
 }
 
 -- a bound that no number reaches

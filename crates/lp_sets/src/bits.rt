@@ -96,7 +96,7 @@ impl Bits {
         ensures ordered { IfOk result (λ v. AllPairs (λ x y. x < y) v.items) }
         ensures exact { IfOk result (λ v. (n : ℕ) → Contains v.items n ↔ Has self.now n) }
     {
-        let mut numbers = Vec::new(alloc);
+        let mut numbers = Vec::with_capacity(alloc, self.words.len().saturating_mul(WORD))?;
         for place in 0..self.words.len() {
             self.push_numbers(place, &mut numbers)?;
         }
@@ -109,11 +109,12 @@ impl Bits {
         requires before { ListsBelow self.now (64 * place) numbers.old.items }
         ensures { OnOk result (ListsBelow self.now (64 * place + 64) numbers.new.items) }
     {
-        for bit in 0..WORD {
-            let number = place * WORD + bit;
-            if self.contains(number) {
-                numbers.push(number)?;
-            }
+        let word = self.word(place);
+        let mut bit = 0;
+        while bit < WORD && (word >> bit) != 0 {
+            bit += (word >> bit).trailing_zeros() as usize;
+            numbers.push(place * WORD + bit)?;
+            bit += 1;
         }
         Ok(())
     }

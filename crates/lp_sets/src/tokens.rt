@@ -51,8 +51,8 @@ impl TokenSet {
     pub fn tokens(&self, alloc: Global) -> Result<Vec<Token>, AllocError>
         ensures { IfOk result (λ v. ListsTokens self.now v.items) }
     {
-        let mut tokens = Vec::new(alloc);
         let numbers = self.terminals.numbers(alloc)?;
+        let mut tokens = Vec::with_capacity(alloc, numbers.len().saturating_add(1))?;
         for number in &numbers {
             tokens.push(Token::Terminal(*number))?;
         }

@@ -9,11 +9,14 @@ use lp_form::template::Piece as LinePart;
 use lp_tree::piece::Piece;
 use std::alloc::{AllocError, Global};
 
-/// So many blanks.
+/// The bytes that most lines have room in.
+const ROOM: usize = 80;
+
+/// So many blanks, and room for a line behind them.
 fn blanks_text(alloc: Global, blanks: u8) -> Result<String, AllocError>
     ensures { IfOk result (λ s. string_bytes s ≡ replicate blanks 32) }
 {
-    let mut text = String::new(alloc);
+    let mut text = String::with_capacity(alloc, ROOM)?;
     for _i in 0..blanks {
         text.push_str(" ")?;
     }

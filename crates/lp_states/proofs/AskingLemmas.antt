@@ -1,12 +1,11 @@
 -- What a closure asks for, step by step.
-use Rattle.std.proofs.Common.{◌≡◌, ◌≢◌, ℕ, ◌⊎◌, ◌↔◌, ◌++◌, [], ◌∷◌, Bool, true, false, cond, List, Option, Some, None, refl, sym, ap, ◌∙◌, ⊎_elim, inl, inr, subst, arith, Contains}
+use Rattle.std.proofs.Common.{◌≡◌, ◌≢◌, ℕ, ◌⊎◌, ◌↔◌, ◌∷◌, Bool, true, false, cond, List, Option, Some, None, refl, sym, ap, ◌∙◌, ⊎_elim, inl, inr, subst, arith, Contains}
 use Rattle.std.specs.BTreeMap as tree
 use Rattle.std.specs.BTreeMap.{BTreeMap}
 use Rattle.std.specs.Ordering.{nat_cmp, eq_by_cmp}
 use Rattle.std.proofs.lemmas.Bool.{cases_eq}
 use Rattle.std.proofs.lemmas.Bool.Decides.{nat_tests}
 use Rattle.std.proofs.lemmas.Option.{same_Some, none-some}
-use Rattle.std.proofs.lemmas.List.Elements.{Contains-push, Contains-push_cases, Contains-append_left}
 use Rattle.lp_repr.specs.Closure.{next_symbol, HasLeft, opened}
 use Rattle.lp_repr.specs.declared.numbering.Rule.{Rule}
 use Rattle.lp_repr.specs.declared.numbering.SymbolNumber.TheVariants as symbol
@@ -17,6 +16,7 @@ use Rattle.lp_sets.proofs.TokenLists.{HasToken-union}
 use Rattle.lp_states.specs.ItemSets.{InLookaheads, begun, passed}
 use Rattle.lp_states.specs.ItemMaps.{ItemMap, Stands, StandsOn, IsPut, added_to}
 use Rattle.lp_states.specs.Asking.{AskedMap, MayFollow, AsksFor, Covers, IsSoundItem, IsSoundAsked, IsSpread, Widens, IsSpreadOrWork}
+use Rattle.lp_states.proofs.WalkSteps.{in_cases}
 
 -- ---- a value put at a number
 same_key : (n : ℕ) → eq_by_cmp nat_cmp n n ≡ true
@@ -55,16 +55,14 @@ module _ (old new : AskedMap) (n : ℕ) (f : TokenSet) (put : IsPut nat_cmp old 
   pub asks_put : AsksFor new n (HasToken f)
   asks_put = (added_to (tree.get nat_cmp old n) f, put_here old new n (added_to (tree.get nat_cmp old n) f) put, added_has_new (tree.get nat_cmp old n) f)
 
-  changed_put : (work more : List ℕ) → (more ≡ work ++ n ∷ []) ⊎ ((more ≡ work) × (tree.get nat_cmp new n ≡ tree.get nat_cmp old n)) → (m : ℕ) (s : TokenSet) → tree.get nat_cmp new m ≡ Some s → (tree.get nat_cmp old m ≡ Some s) ⊎ Contains more m
-  changed_put work more h m s e =
-      ⊎_elim (λ (same : m ≡ n). ⊎_elim (λ (w : more ≡ work ++ n ∷ []). inr (subst (λ x. Contains more x) (sym same) (subst (λ xs. Contains xs n) (sym w) (Contains-push work n)))) (λ w. inl (ap (tree.get nat_cmp old) same ∙ sym w.1 ∙ ap (tree.get nat_cmp new) (sym same) ∙ e)) h) (λ (ne : m ≢ n). inl (sym (put_other old new n (added_to (tree.get nat_cmp old n) f) m put ne) ∙ e)) (cases_eq m n)
+  -- what is new stands in the work, which keeps what it has
+  module _ (work more : List ℕ) (asked : (tree.get nat_cmp new n ≡ tree.get nat_cmp old n) ⊎ Contains more n) where
+    changed_put : (m : ℕ) (s : TokenSet) → tree.get nat_cmp new m ≡ Some s → (tree.get nat_cmp old m ≡ Some s) ⊎ Contains more m
+    changed_put m s e =
+        ⊎_elim (λ (same : m ≡ n). ⊎_elim (λ (w : tree.get nat_cmp new n ≡ tree.get nat_cmp old n). inl (ap (tree.get nat_cmp old) same ∙ sym w ∙ ap (tree.get nat_cmp new) (sym same) ∙ e)) (λ (w : Contains more n). inr (subst (λ x. Contains more x) (sym same) w)) asked) (λ (ne : m ≢ n). inl (sym (put_other old new n (added_to (tree.get nat_cmp old n) f) m put ne) ∙ e)) (cases_eq m n)
 
-  kept_put : (work more : List ℕ) → (more ≡ work ++ n ∷ []) ⊎ ((more ≡ work) × (tree.get nat_cmp new n ≡ tree.get nat_cmp old n)) → (m : ℕ) → Contains work m → Contains more m
-  kept_put work more h m c =
-      ⊎_elim (λ (w : more ≡ work ++ n ∷ []). subst (λ xs. Contains xs m) (sym w) (Contains-append_left work (n ∷ []) m c)) (λ w. subst (λ xs. Contains xs m) (sym w.0) c) h
-
-  pub widens_put : (work more : List ℕ) → (more ≡ work ++ n ∷ []) ⊎ ((more ≡ work) × (tree.get nat_cmp new n ≡ tree.get nat_cmp old n)) → Widens old work new more
-  widens_put work more h = record { grows = grows_put; changed = changed_put work more h; kept = kept_put work more h }
+    pub widens_put : ((m : ℕ) → Contains work m → Contains more m) → Widens old work new more
+    widens_put kept = record { grows = grows_put; changed = changed_put; kept = kept }
 
   pub sound_put : (rules : List Rule) (kernel : ItemMap) → ((q : ℕ) → HasLeft rules q n → IsSoundItem rules kernel q 0 f) → IsSoundAsked rules kernel old → IsSoundAsked rules kernel new
   sound_put rules kernel here before m q s e l =
@@ -106,10 +104,10 @@ taken_spread rules old new n m s r at x same h q l =
     subst (λ k. Covers rules new q 0 k) e (h q (subst (λ k. HasLeft rules q k) (sym same) l))
 
 -- ---- a nonterminal taken off the work
-pub spread_after : (rules : List Rule) (old new : AskedMap) (work more : List ℕ) (n : ℕ) (s : TokenSet) → tree.get nat_cmp old n ≡ Some s → IsSpreadOrWork rules old (work ++ n ∷ []) → Widens old work new more → IsSpread rules new n s → IsSpreadOrWork rules new more
+pub spread_after : (rules : List Rule) (old new : AskedMap) (work more : List ℕ) (n : ℕ) (s : TokenSet) → tree.get nat_cmp old n ≡ Some s → IsSpreadOrWork rules old (n ∷ work) → Widens old work new more → IsSpread rules new n s → IsSpreadOrWork rules new more
 spread_after rules old new work more n s at before widens here m r e =
-    ⊎_elim (λ (x : tree.get nat_cmp old m ≡ Some r). ⊎_elim (λ (y : IsSpread rules old m r). inl (λ q l. covers_more rules old new widens.grows q 0 r (y q l))) (λ (y : Contains (work ++ n ∷ []) m). ⊎_elim (λ (z : Contains work m). inr (widens.kept m z)) (λ (z : n ≡ m). inl (taken_spread rules old new n m s r at x z here)) (Contains-push_cases work n m y)) (before m r x)) (λ (x : Contains more m). inr x) (widens.changed m r e)
+    ⊎_elim (λ (x : tree.get nat_cmp old m ≡ Some r). ⊎_elim (λ (y : IsSpread rules old m r). inl (λ q l. covers_more rules old new widens.grows q 0 r (y q l))) (λ (y : Contains (n ∷ work) m). ⊎_elim (λ (z : n ≡ m). inl (taken_spread rules old new n m s r at x z here)) (λ (z : Contains work m). inr (widens.kept m z)) (in_cases n work m y)) (before m r x)) (λ (x : Contains more m). inr x) (widens.changed m r e)
 
-pub spread_absent : (rules : List Rule) (sets : AskedMap) (work : List ℕ) (n : ℕ) → tree.get nat_cmp sets n ≡ None → IsSpreadOrWork rules sets (work ++ n ∷ []) → IsSpreadOrWork rules sets work
+pub spread_absent : (rules : List Rule) (sets : AskedMap) (work : List ℕ) (n : ℕ) → tree.get nat_cmp sets n ≡ None → IsSpreadOrWork rules sets (n ∷ work) → IsSpreadOrWork rules sets work
 spread_absent rules sets work n at before m r e =
-    ⊎_elim (λ (y : IsSpread rules sets m r). inl y) (λ (y : Contains (work ++ n ∷ []) m). ⊎_elim (λ (z : Contains work m). inr z) (λ (z : n ≡ m). let c : None ≡ Some r = sym at ∙ ap (tree.get nat_cmp sets) z ∙ e in absurd (none-some r c)) (Contains-push_cases work n m y)) (before m r e)
+    ⊎_elim (λ (y : IsSpread rules sets m r). inl y) (λ (y : Contains (n ∷ work) m). ⊎_elim (λ (z : n ≡ m). let c : None ≡ Some r = sym at ∙ ap (tree.get nat_cmp sets) z ∙ e in absurd (none-some r c)) (λ (z : Contains work m). inr z) (in_cases n work m y)) (before m r e)

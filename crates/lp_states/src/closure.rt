@@ -78,7 +78,7 @@ impl Closing {
         ensures sound { OnOk result ((kernel : ItemMap) → IsSoundAsked self.now.rules.all.items kernel asked.old.sets → IsSoundAsked self.now.rules.all.items kernel asked.new.sets) }
     {
         for _ in 0..u64::MAX {
-            match asked.work.pop() {
+            match asked.work.pop_front() {
                 None => return Ok(()),
                 Some(nonterminal) => self.spread_one(alloc, asked, nonterminal)?,
             }
@@ -94,7 +94,7 @@ impl Closing {
         nonterminal: usize,
     ) -> Result<(), AllocError>
         requires firsts { AreFirsts self.now.rules.all.items self.now.firsts.empty self.now.firsts.sets.items }
-        requires work { IsSpreadOrWork self.now.rules.all.items asked.old.sets (asked.old.work.items ++ nonterminal ∷ []) }
+        requires work { IsSpreadOrWork self.now.rules.all.items asked.old.sets (nonterminal ∷ asked.old.work.items) }
         ensures work { OnOk result (IsSpreadOrWork self.now.rules.all.items asked.new.sets asked.new.work.items) }
         ensures grows { OnOk result ((n : ℕ) (s : TokenSet) → get nat_cmp asked.old.sets n ≡ Some s → AsksFor asked.new.sets n (HasToken s)) }
         ensures sound { OnOk result ((kernel : ItemMap) → IsSoundAsked self.now.rules.all.items kernel asked.old.sets → IsSoundAsked self.now.rules.all.items kernel asked.new.sets) }

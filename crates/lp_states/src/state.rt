@@ -108,7 +108,7 @@ pub fn new_state(alloc: Global, rules: &Rules, items: &ItemSet) -> Result<Lr1Sta
 fn shown_items(alloc: Global, items: &ItemSet) -> Result<Vec<Item>, AllocError>
     ensures { IfOk result (λ v. ShowsItems items.now.entries v.items) }
 {
-    let mut shown = Vec::new(alloc);
+    let mut shown = Vec::with_capacity(alloc, items.len())?;
     for (item, lookaheads) in items {
         let lookahead = Items(lookaheads.tokens(alloc)?);
         shown.push(Item {

@@ -112,7 +112,7 @@ fn commented<'n>(
 ) -> Result<Vec<(i32, &'n str)>, AllocError>
     ensures { IfOk result (λ row. map row_entry row.items ≡ commented numbers.now comments.now) }
 {
-    let mut row = Vec::new(alloc);
+    let mut row = Vec::with_capacity(alloc, numbers.len())?;
     for (i, number) in numbers.iter().enumerate() {
         row.push((*number, comment_at(comments, i)))?;
     }

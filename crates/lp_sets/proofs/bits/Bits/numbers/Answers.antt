@@ -4,7 +4,7 @@ use Rattle.lp_sets.proofs.Listing.{lists_none, lists_all}
 use Rattle.lp_sets.proofs.bits.Bits.numbers.Goals as goal
 
 pub loop-place-init : goal.loop-place-init
-loop-place-init c = rw c.new-numbers.ensures.items (lists_none c.args.self.now)
+loop-place-init c = rw c.in_ok-numbers.ensures.items (lists_none c.args.self.now)
 
 pub loop-place-preserved : goal.loop-place-preserved
 loop-place-preserved c =

@@ -1,14 +1,23 @@
-use Rattle.std.proofs.Common.{◌≡◌, ◌+◌, ◌*◌, IsTrue, false, refl, arith}
-use Rattle.lp_sets.proofs.Listing.{lists_more, lists_same}
+use Rattle.std.proofs.Common.{◌≡◌, ◌+◌, ◌*◌, ◌/◌, ◌^◌, ◌<◌, arith}
+use Rattle.lp_sets.proofs.NextBits.{gap, next_within, lists_next, lists_rest}
 use Rattle.lp_sets.proofs.bits.Bits.push_numbers.Goals as goal
-use Rattle.lp_sets.proofs.bits.Bits.push_numbers.Goals.{then-contains+in_ok-push, else-contains}
 
-pub loop-bit-init : goal.loop-bit-init
-loop-bit-init c = let e : 64 * c.args.place ≡ 64 * c.args.place + 0 = omega arith in rw (← e) c.requires.before
+pub overflow_add-place : goal.overflow_add-place
+overflow_add-place c =
+    let some : 0 < c.word-word.result / 2 ^ c.loop-bit.bit = omega (arith, c.if-word-bit-ne0.true) in
+    omega (arith, c.requires.place, next_within c.word-word.result c.loop-bit.bit c.word-word.type_inv some)
 
 pub loop-bit-preserved : goal.loop-bit-preserved
 loop-bit-preserved c =
-    let n = 64 * c.args.place + c.loop-bit.bit in
-    let e : 64 * c.args.place + (c.loop-bit.bit + 1) ≡ n + 1 = omega arith in
-    let f : c.args.place * 64 + c.loop-bit.bit ≡ n = omega arith in
-    elim c.if-contains.branch [ then-contains+in_ok-push w ↦ rw (w.numbers-is, w.in_ok-push.ensures.items, e, f) (lists_more c.loop-bit.invariant (rw f at (w.if-contains.ensures.stands.0 refl))) | else-contains w ↦ rw (w.numbers-is, e) (lists_same c.loop-bit.invariant (λ h. let e : IsTrue false = w.if-contains.ensures.stands.1 (rw f h) in cc)) ]
+    let w = c.word-word.result in
+    let bit = c.loop-bit.bit in
+    let some : 0 < w / 2 ^ bit = omega (arith, c.if-word-bit-ne0.true) in
+    let at : c.args.place * 64 + (bit + gap w bit) ≡ 64 * c.args.place + (bit + gap w bit) = omega arith in
+    record {
+      within = omega (arith, next_within w bit c.word-word.type_inv some);
+      lists = rw (c.in_ok-push.ensures.items, at) (lists_next c.args.self.now c.args.place w bit c.loop-bit.numbers.items c.word-word.ensures.bits c.loop-bit.invariant.lists c.word-word.type_inv some);
+    }
+
+pub returns-else-word-bit-ne0 : goal.returns-else-word-bit-ne0
+returns-else-word-bit-ne0 c =
+    lists_rest c.args.self.now c.args.place c.word-word.result c.loop-bit.bit c.loop-bit.numbers.items c.word-word.ensures.bits c.loop-bit.invariant.lists c.loop-bit.invariant.within c.if-word-bit-ne0.false

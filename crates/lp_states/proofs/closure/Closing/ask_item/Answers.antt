@@ -4,7 +4,7 @@ use Rattle.lp_repr.specs.Closure.{next_symbol}
 use Rattle.lp_repr.specs.declared.numbering.SymbolNumber.TheVariants.{Nonterminal}
 use Rattle.lp_states.proofs.AskingLemmas.{asks_put, widens_put, sound_put, sound_follow}
 use Rattle.lp_states.proofs.AskingSteps.{covers_asked}
-use Rattle.lp_states.proofs.Results.{both_on_ok}
+use Rattle.lp_states.proofs.Results.{all_on_ok}
 use Rattle.lp_states.proofs.closure.Closing.ask_item.Goals as goal
 
 pub returns-in_ok-follow-in-Some-Nonterminal-clause-widens :
@@ -12,7 +12,7 @@ pub returns-in_ok-follow-in-Some-Nonterminal-clause-widens :
 returns-in_ok-follow-in-Some-Nonterminal-clause-widens c =
     let old = c.args.asked.now in
     let new = c.ask.new.self in
-    both_on_ok c.ask.result (λ put work. widens_put old.sets new.sets c.in-Some-Nonterminal.nonterminal c.in_ok-follow-in-Some-Nonterminal.follow put old.work.items new.work.items work) c.ask.ensures.sets c.ask.ensures.work
+    all_on_ok c.ask.result (λ put work kept. widens_put old.sets new.sets c.in-Some-Nonterminal.nonterminal c.in_ok-follow-in-Some-Nonterminal.follow put old.work.items new.work.items work kept) c.ask.ensures.sets c.ask.ensures.work c.ask.ensures.kept
 
 pub returns-in_ok-follow-in-Some-Nonterminal-clause-covers :
     goal.returns-in_ok-follow-in-Some-Nonterminal-clause-covers
