@@ -1,6 +1,7 @@
 pub mod Left
 pub mod Signs
 pub mod Scans
+pub mod Endless
 pub mod Marks
 pub mod CodePieces
 pub mod Cut

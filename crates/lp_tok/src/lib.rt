@@ -2,8 +2,11 @@
 #![tactic(auto)]
 
 mod cut;
+mod endless;
 mod escapes;
 mod piece;
+mod place;
+mod places;
 mod quoted;
 mod rest;
 mod scan;

@@ -1,12 +1,14 @@
 //! The tokens of a text, one at a time.
 #![tactic(auto, using(crate::proofs::Lefts::follows_follows, crate::proofs::Lefts::follows_itself, crate::proofs::Lefts::alone_follows))]
 
-ghost use Rattle.std.specs.Prelude.{◌≡◌, ◌+◌, ◌-◌, ◌^◌, ◌<◌, ◌≤◌, ◌↔◌, List, [], ◌∷◌, length, true, false};
+ghost use Rattle.std.specs.Prelude.{◌≡◌, ◌+◌, ◌-◌, ◌^◌, ◌<◌, ◌≤◌, ◌↔◌, List, [], ◌∷◌, length, true, None};
 ghost use Rattle.std.specs.Str.{chars};
 ghost use Rattle.std.specs.Iterator.{at_most};
 ghost use Rattle.lp_tok.specs.Left.{left, size, Follows};
 ghost use Rattle.lp_tok.specs.Token.{Item};
-ghost use Rattle.lp_tok.specs.Scans.{has_closer};
+ghost use Rattle.std.specs.List.{All};
+ghost use Rattle.lp_tok.specs.Endless.{IsKnown};
+ghost use Rattle.lp_tok.specs.Pieces.{attribute_end};
 ghost use Rattle.lp_tok.specs.Found.{piece_of, TakesSome};
 ghost use Rattle.lp_tok.specs.Pieces.{Cut};
 ghost use Rattle.lp_tok.specs.WordPieces.{first_piece};
@@ -18,7 +20,9 @@ use crate::cut::{CutEnd, cut};
 use crate::piece::{Piece, Texted, before, with_text};
 use crate::rest::{Rest, past, whole};
 use crate::tok::{Error, ErrorCode, Spanned, Tok};
-use crate::unread::{Tokenizer, behind_closer, is_unclosed};
+use crate::endless::never_ends;
+use crate::places::Places;
+use crate::unread::Tokenizer;
 use crate::word::first_piece;
 
 impl<'input> Tokenizer<'input> {
@@ -33,8 +37,7 @@ impl<'input> Tokenizer<'input> {
         Tokenizer {
             rest: text,
             end: text.len() + shift,
-            behind: text.len(),
-            unclosed: false,
+            places: Places::none(),
         }
     }
 }
@@ -48,17 +51,35 @@ enum Reading<'a> {
     End,
 }
 
-/// The first piece. Where no `]` is left, a `#` is a token of its own.
-fn next_piece<'a>(start: Rest<'a>, unclosed: bool) -> Piece<'a>
+/// Whether it is known that no attribute ends, whose `#` was read.
+fn is_hash(next: Rest<'_>, places: &Places) -> bool
+    requires alone { next.behind.now ≡ [] }
+    requires known { All (IsKnown next.text.now) places.now.known }
+    ensures { result ≡ true → attribute_end (left next.entry) ≡ None }
+{
+    match past(next, '!') {
+        Some(after) => match past(after, '[') {
+            Some(inside) => {
+                let bytes = inside.text.as_bytes();
+                never_ends(bytes, places.nearest(bytes.len()))
+            }
+            None => true,
+        },
+        None => true,
+    }
+}
+
+/// The first piece. Where no attribute ends, a `#` is a token of its own.
+fn next_piece<'a>(start: Rest<'a>, places: &Places) -> Piece<'a>
     requires alone { start.behind.now ≡ [] }
-    requires none_left { unclosed ≡ true → has_closer start.text.now ≡ false }
+    requires known { All (IsKnown start.text.now) places.now.known }
     ensures value { piece_of result ≡ first_piece (left start.entry) }
     ensures takes { TakesSome start.entry result }
 {
-    if unclosed {
-        if let [b'#', ..] = start.text.as_bytes() {
-            if let Some(after) = past(start, '#') {
-                return Piece::Whole(Tok::Hash, after);
+    if let [b'#', ..] = start.text.as_bytes() {
+        if let Some(next) = past(start, '#') {
+            if is_hash(next, places) {
+                return Piece::Whole(Tok::Hash, next);
             }
         }
     }
@@ -66,14 +87,14 @@ fn next_piece<'a>(start: Rest<'a>, unclosed: bool) -> Piece<'a>
 }
 
 /// The first token or error. Blanks and comments before it are passed.
-fn read<'a>(from: Rest<'a>, unclosed: bool) -> Reading<'a>
+fn read<'a>(from: Rest<'a>, places: &Places) -> Reading<'a>
     requires alone { from.behind.now ≡ [] }
-    requires none_left { unclosed ≡ true → has_closer from.text.now ≡ false }
+    requires known { All (IsKnown from.text.now) places.now.known }
     ensures { IsReadFrom from.entry result }
 {
     let mut start = from;
     loop {
-        match next_piece(start, unclosed) {
+        match next_piece(start, places) {
             Piece::Gap(after) => start = after,
             Piece::Whole(token, after) => return Reading::Token(start, token, after, after),
             Piece::Text(kind, front, to, after) => {
@@ -114,10 +135,10 @@ impl<'input> Iterator for Tokenizer<'input> {
 
     fn next(&mut self) -> Option<Result<Spanned<Tok<'input>>, Error>> {
         let end = self.end;
-        match read(whole(self.rest), self.unclosed) {
+        self.places.prepare(self.rest);
+        match read(whole(self.rest), &self.places) {
             Reading::Token(start, token, stop, after) => {
-                self.unclosed = is_unclosed(self.unclosed, self.behind, &token, after.text);
-                self.behind = behind_closer(self.behind, &token, after.text);
+                self.places.pass(&token, after.text);
                 self.rest = after.text;
                 Some(Ok((place(end, start.text), token, place(end, stop.text))))
             }

@@ -4,6 +4,7 @@ use Rattle.lp_tok.specs.Token.{Text}
 use Rattle.lp_tok.specs.Tokens.{tokens_none, tokens_fault}
 use Rattle.lp_tok.proofs.Lefts.{follows_itself}
 use Rattle.lp_tok.proofs.Orders.{symbol_follows, text_follows}
+use Rattle.lp_tok.proofs.Unclosed.{known_follows}
 use Rattle.lp_tok.proofs.Readings.{gaps_more, read_past_gaps, whole_tokens, attribute_tokens}
 use Rattle.lp_tok.specs.declared.piece.Texted.TheVariants.{ShebangAttribute}
 use Rattle.std.proofs.Common.{refl}
@@ -58,3 +59,7 @@ returns-in-Fault c =
 
 pub returns-in-Nothing : goal.returns-in-Nothing
 returns-in-Nothing c = read_past_gaps _ _ End c.loop-after.invariant (λ end. tokens_none _ (sym c.in-Nothing.ensures.value))
+
+-- what is known of the text is known after the gaps
+pub next_piece-requires-clause-known : goal.next_piece-requires-clause-known
+next_piece-requires-clause-known c = known_follows _ c.loop-after.start _ c.loop-after.invariant.follows c.requires.known

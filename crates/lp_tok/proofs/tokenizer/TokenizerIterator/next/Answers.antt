@@ -1,6 +1,7 @@
-use Rattle.std.proofs.Common.{subst, refl, [], ap, ◌∙◌}
-use Rattle.lp_tok.specs.Scans.{has_closer}
-use Rattle.lp_tok.proofs.Unclosed.{none_at_end}
+use Rattle.std.proofs.Common.{subst, sym, refl, []}
+use Rattle.std.specs.List.{All}
+use Rattle.lp_tok.specs.Endless.{IsKnown}
+use Rattle.lp_tok.proofs.Unclosed.{known_follows}
 use Rattle.lp_tok.specs.Tokens.{AreTokens, tokens_none}
 use Rattle.lp_tok.proofs.Lefts.{left_alone, alone_follows}
 use Rattle.lp_tok.proofs.Readings.{next_token, next_error, no_tokens, nothing_left}
@@ -37,6 +38,10 @@ returns-in-End-clause-steps c = (
   tokens_none _ nothing_left,
 )
 
--- where no `]` was left, none is left after the token
-pub is_unclosed-self-requires : goal.is_unclosed-self-requires
-is_unclosed-self-requires c closed = none_at_end c.whole.result c.in-Token.after c.in-Token.ensures.3 (ap has_closer c.whole.ensures.text ∙ c.args.self.now.none_left closed)
+-- what is known of the text is known after the token
+pub invariant_of-self : goal.invariant_of-self
+invariant_of-self c = record {
+  known =
+      let before = subst (λ t. All (IsKnown t) c.prepare.new.self.known) (sym c.whole.ensures.text) c.prepare.ensures in
+      subst (All (IsKnown c.in-Token.after.text.now)) (sym c.pass.ensures) (known_follows c.whole.result c.in-Token.after _ c.in-Token.ensures.3 before);
+}
