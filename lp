@@ -78,7 +78,7 @@ def is_current(crates):
 
 
 def run_unproved(words):
-    say("this run is not proved, and takes about two minutes; `./lp build` proves the program and builds it")
+    say("this run is not proved, and takes some minutes; `./lp build` proves the program and builds it")
     source = b"" if words[0] == "make" else sys.stdin.buffer.read()
     ran = subprocess.run(["rt", "try", "--", *words], cwd=folder(MAIN), input=source, capture_output=True)
     told = ran.stderr.decode(errors="replace").splitlines()
